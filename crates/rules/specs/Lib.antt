@@ -1,1 +1,15 @@
+pub mod Maxima
+pub mod Kinds
+pub mod Rows
+pub mod RowCheck
+pub mod Declarations
+pub mod Accepted
+pub mod Replacement
+pub mod Spines
 pub mod Arithmetic
+pub mod Firings
+pub mod HeadTests
+pub mod HeadRules
+pub mod Refusals
+pub mod Call
+pub mod ReadOut
