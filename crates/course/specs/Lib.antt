@@ -1,0 +1,4 @@
+pub mod Views
+pub mod Tries
+pub mod Eval
+pub mod Charged
