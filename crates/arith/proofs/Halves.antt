@@ -1,4 +1,5 @@
--- Multiplication by halves: the product of two words fits two words, and that of a number and a word is made of two such products.
+-- Multiplication by halves: a product of two words fits two words, a number times a word is made of two such products, and which
+-- products are over 2^64 - 1.
 -- Assumes nothing.
 use mathlib.Core.Path.{_≡_, _∙_, ap}
 use Prim.Native.Nat.{ℕ, _+_, _*_, _^_, _≤_, _<_}
@@ -14,14 +15,13 @@ product-of-words {a} {b} ha hb =
 pub by-halves : (low high w : ℕ) → wordsValue low high * w ≡ low * w + 2 ^ 32 * (high * w)
 by-halves low high w = rw (add-mul, mul-assoc)
 
--- what the high half brings is counted in whole words
 pub high-half-over : (low high w : ℕ) → 2 ^ 32 ≤ high * w → 2 ^ 64 ≤ wordsValue low high * w
 high-half-over low high w h = rw by-halves (omega arith)
 
 pub both-high-over : (a b : ℕ) → 2 ^ 32 ≤ a → 2 ^ 32 ≤ b → 2 ^ 64 ≤ a * b
 both-high-over a b ha hb = mul-le-mul ha hb
 
--- a number with no high half is its low word
+-- a number with no high half is its low word, on either side
 
 pub times-a-word : (n low high : ℕ) → high ≡ 0 → n * wordsValue low high ≡ n * low
 times-a-word n low high none = ap (λ (v : ℕ). n * v) (omega arith)

@@ -48,7 +48,7 @@ pub fn number_of(v: u64) -> Number
     }
 }
 
-// What every operation ends in whose number fits: its two words.
+// How each operation ends whose number fits: in the number's two words.
 fn fitting(v: u64) -> Outcome
     ensures { λ r. ⌜ meaning r ≡ settled (number v) ⌝ }
 {
@@ -68,13 +68,11 @@ fn add(x: u64, y: u64) -> Outcome
 fn sub(x: u64, y: u64) -> u64
     ensures { λ r. ⌜ r ≡ x - y ⌝ }
 {
-    if x < y {
-        return 0;
-    }
-    x - y
+    if x < y { 0 } else { x - y }
 }
 
-// A number times a word, by halves: the high half's product counts whole words, and the low half's is below 2^64.
+// A number times a word, by halves: low * w + 2^32 * (high * w). A product of two words is below 2^64, so only the high one,
+// which 2^32 multiplies, and the sum can be too large.
 fn mul_word(n: Number, w: u32) -> Outcome
     ensures { λ r. ⌜ meaning r ≡ settled (number (valueOf n * w)) ⌝ }
 {
@@ -86,7 +84,7 @@ fn mul_word(n: Number, w: u32) -> Outcome
     add(low, BASE * high)
 }
 
-// Two numbers of which neither fits a word have a product of at least 2^32 * 2^32.
+// Where neither number is a single word, both are 2^32 or more, and the product is 2^64 or more.
 fn mul(x: Number, y: Number) -> Outcome
     ensures { λ r. ⌜ meaning r ≡ settled (number (valueOf x * valueOf y)) ⌝ }
 {
@@ -102,19 +100,13 @@ fn mul(x: Number, y: Number) -> Outcome
 fn div(x: u64, y: u64) -> u64
     ensures { λ r. ⌜ r ≡ quotient x y ⌝ }
 {
-    if y == 0 {
-        return 0;
-    }
-    x / y
+    if y == 0 { 0 } else { x / y }
 }
 
 fn modulo(x: u64, y: u64) -> u64
     ensures { λ r. ⌜ r ≡ remainder x y ⌝ }
 {
-    if y == 0 {
-        return x;
-    }
-    x % y
+    if y == 0 { x } else { x % y }
 }
 
 pub fn compute(op: Op, x: Number, y: Number) -> Outcome

@@ -8,13 +8,14 @@ use Rattle.arith.specs.Meaning.{Said, opOf, valueOf, settled}
 use Rattle.arith.proofs.compute.Statement.{statement}
 use Rattle.arith.proofs.compute.Tie as tie
 
--- what the function has to answer, once both values are at hand
-abbrev Due : tie.After-value2 → Said → Type 0
-Due c said = said ≡ settled (compute (opOf (c .before .before .args .op)) (valueOf (c .before .before .args .x)) (valueOf (c .before .before .args .y)))
+-- that an answer is what the contract asks for, said where both values are at hand, which every arm comes from
+abbrev Right : tie.After-value2 → Said → Type 0
+Right c said =
+    said ≡ settled (compute (opOf (c .before .before .args .op)) (valueOf (c .before .before .args .x)) (valueOf (c .before .before .args .y)))
 
--- it is due what is computed from those values at the operation that the arm is for
-on-values : (c : tie.After-value2) {op : rules.Op} {said : Said} → opOf (c .before .before .args .op) ≡ op → said ≡ settled (compute op (c .before .value .result) (c .value2 .result)) → Due c said
-on-values c is-op known = rw (is-op, ← c .before .value .ensures, ← c .value2 .ensures) known
+-- an arm is for one operation, and what the rules give there for the values at hand they give for the two numbers
+at-arm : (c : tie.After-value2) {op : rules.Op} {said : Said} → opOf (c .before .before .args .op) ≡ op → said ≡ settled (compute op (c .before .value .result) (c .value2 .result)) → Right c said
+at-arm c is-op given = rw (is-op, ← c .before .value .ensures, ← c .value2 .ensures) given
 
 value-requires : tie.Need-value-requires
 value-requires c κs = search needs
@@ -67,33 +68,40 @@ enum-told-6 c = search needs
 enum-told-7 : tie.Need-enum-told-7
 enum-told-7 c = search needs
 
+-- add
 returns : tie.Need-returns
 unfolding compute
-returns c = on-values (c .before .before .before) (ap opOf (c .before .enum-told .given .1)) (c .add .ensures)
+returns c = at-arm (c .before .before .before) (ap opOf (c .before .enum-told .given .1)) (c .add .ensures)
 
+-- sub
 returns-2 : tie.Need-returns-2
 unfolding compute
-returns-2 c = on-values (c .before .before .before .before) (ap opOf (c .before .before .enum-told2 .given .1)) (rw (c .before .sub .ensures) at (c .fitting .ensures))
+returns-2 c = at-arm (c .before .before .before .before) (ap opOf (c .before .before .enum-told2 .given .1)) (rw (c .before .sub .ensures) at (c .fitting .ensures))
 
+-- mul, whose function takes the numbers themselves
 returns-3 : tie.Need-returns-3
 unfolding compute
 returns-3 c = rw (c .before .enum-told3 .given .1) (c .mul .ensures)
 
+-- div
 returns-4 : tie.Need-returns-4
 unfolding compute
-returns-4 c = on-values (c .before .before .before .before) (ap opOf (c .before .before .enum-told4 .given .1)) (rw (c .before .div .ensures) at (c .fitting2 .ensures))
+returns-4 c = at-arm (c .before .before .before .before) (ap opOf (c .before .before .enum-told4 .given .1)) (rw (c .before .div .ensures) at (c .fitting2 .ensures))
 
+-- mod
 returns-5 : tie.Need-returns-5
 unfolding compute
-returns-5 c = on-values (c .before .before .before .before) (ap opOf (c .before .before .enum-told5 .given .1)) (rw (c .before .modulo .ensures) at (c .fitting3 .ensures))
+returns-5 c = at-arm (c .before .before .before .before) (ap opOf (c .before .before .enum-told5 .given .1)) (rw (c .before .modulo .ensures) at (c .fitting3 .ensures))
 
+-- beq
 returns-6 : tie.Need-returns-6
 unfolding compute settled
-returns-6 c = on-values (c .before .before) (ap opOf (c .enum-told6 .given .1)) refl
+returns-6 c = at-arm (c .before .before) (ap opOf (c .enum-told6 .given .1)) refl
 
+-- ble
 returns-7 : tie.Need-returns-7
 unfolding compute settled
-returns-7 c = on-values (c .before .before) (ap opOf (c .enum-told7 .given .1)) refl
+returns-7 c = at-arm (c .before .before) (ap opOf (c .enum-told7 .given .1)) refl
 
 pub compute-spec : {M : Type 1} → statement M
 compute-spec =

@@ -5,14 +5,14 @@ use Rattle.arith.proofs.Division.{quotient-is}
 use Rattle.arith.proofs.div.Statement.{statement}
 use Rattle.arith.proofs.div.Tie as tie
 
-returns : tie.Need-returns
-returns c = search needs
-
 div-result : tie.Need-div-result
 div-result c = search needs
+
+returns : tie.Need-returns
+returns c = search needs
 
 returns-2 : tie.Need-returns-2
 returns-2 c = rw quotient-is
 
 pub div-spec : {M : Type 1} → statement M
-div-spec = tie.close (tie.spec returns div-result returns-2)
+div-spec = tie.close (tie.spec div-result returns returns-2)

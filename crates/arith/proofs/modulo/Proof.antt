@@ -5,14 +5,14 @@ use Rattle.arith.proofs.Division.{remainder-is}
 use Rattle.arith.proofs.modulo.Statement.{statement}
 use Rattle.arith.proofs.modulo.Tie as tie
 
-returns : tie.Need-returns
-returns c = search needs
-
 rem-result : tie.Need-rem-result
 rem-result c = search needs
+
+returns : tie.Need-returns
+returns c = search needs
 
 returns-2 : tie.Need-returns-2
 returns-2 c = rw remainder-is
 
 pub modulo-spec : {M : Type 1} → statement M
-modulo-spec = tie.close (tie.spec returns rem-result returns-2)
+modulo-spec = tie.close (tie.spec rem-result returns returns-2)

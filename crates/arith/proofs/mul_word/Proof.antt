@@ -2,6 +2,7 @@
 -- Assumes nothing.
 use borrow.Author.Needs.{needs}
 use mathlib.Core.Path.{sym}
+use native.Mathlib.Omega.{arith}
 use Rattle.arith.proofs.Settled.{over}
 use Rattle.arith.proofs.Halves.{product-of-words, by-halves, high-half-over}
 use Rattle.arith.proofs.mul_word.Statement.{statement}
@@ -14,7 +15,7 @@ mul-high : tie.Need-mul-high
 mul-high c = record { fits = product-of-words (search needs) (search needs) }
 
 returns : tie.Need-returns
-returns c = sym (over _ (high-half-over _ _ _ (c .if1 .taken)))
+returns c = sym (over _ (high-half-over _ _ _ (omega arith)))
 
 cast-low : tie.Need-cast-low
 cast-low c = search needs
