@@ -1,0 +1,4 @@
+pub mod Settled
+pub mod Halves
+pub mod Division
+pub mod Determined
