@@ -1,5 +1,8 @@
 pub mod Views
 pub mod Tries
+pub mod ToTries
+pub mod FromTries
+pub mod FromDemands
 pub mod Eval
 pub mod Charged
 pub mod Reading
