@@ -8,3 +8,4 @@ pub mod Charged
 pub mod Reading
 pub mod Tables
 pub mod Examples
+pub mod Cases

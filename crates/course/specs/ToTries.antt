@@ -92,6 +92,7 @@ module _ (e : Env) where
 
   mutual
     unfolding atRow lambda variable projection quot recursion arithmetic delta constant
+
     pub to-runs : {d : ℕ} {m m′ : Tally} {t t′ : Ptr} → Reduces e d m t m′ t′ → Runs e d m t m′ t′
     to-runs (H.final s) = let a = to-stuck s in Y.final (a .spine) (a .comes)
     to-runs (H.then f p r) = let a = to-fires f in Y.then (a .spine) (a .comes) p (to-runs r)
@@ -191,6 +192,7 @@ module _ (e : Env) where
 
   mutual
     unfolding atRow projection quot recursion arithmetic constant
+
     pub to-meets : {d : ℕ} {m m₁ : Tally} {t : Ptr} {a : Demand} → Meets e d m t a m₁ → RunMeets e d m t a m₁
     to-meets (in-premise p) = let a = to-premise p in trying (a .spine) (a .meets)
     to-meets (in-firing f q) = let a = to-fires f in paying (a .spine) (a .comes) q
