@@ -1,1 +1,4 @@
 pub mod Stores
+pub mod SaysRows
+pub mod SaysCharge
+pub mod Says
