@@ -2,3 +2,4 @@ pub mod Stores
 pub mod SaysRows
 pub mod SaysCharge
 pub mod Says
+pub mod Same
