@@ -3,3 +3,4 @@ pub mod SaysRows
 pub mod SaysCharge
 pub mod Says
 pub mod Same
+pub mod Apart

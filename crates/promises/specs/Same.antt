@@ -105,7 +105,7 @@ same-firing {r = r} {r′ = r′} {xs = xs} {xs′ = xs′} z P h =
     let q₂ : xs′ ≡ xs = cc in
     rw (z .tally, ← q₁, ← q₂) h
 
-pays-on : {m m′ m₁ m₂ : Tally} {r r′ : Result} {xs xs′ : List Ptr} {t₁ t₂ : Ptr} → SameEnd m m′ (firing r xs) (firing r′ xs′) →
+pub pays-on : {m m′ m₁ m₂ : Tally} {r r′ : Result} {xs xs′ : List Ptr} {t₁ t₂ : Ptr} → SameEnd m m′ (firing r xs) (firing r′ xs′) →
     Pays m r xs m₁ t₁ → Pays m′ r′ xs′ m₂ t₂ → SameTerm m₁ m₂ t₁ t₂
 pays-on {m₂ = m₂} {t₂ = t₂} z p p′ = pays-same p (same-firing z (λ m r xs. Pays m r xs m₂ t₂) p′)
 

@@ -13,8 +13,8 @@ use Rattle.rules.specs.Declarations.{Env}
 use Rattle.rules.specs.Replacement.{Replaces, same, moved, inside, OnRow, stays, value, moves, children, OnField, word, child, under}
 use Rattle.rules.specs.Spines.{joined}
 use Rattle.rules.specs.Firings.{Tally, tally, Result, Gives, by-replacement, no-row, number-row, constant-row, Due, Written, Pays}
-use Rattle.rules.specs.Refusals.{Limits, Within}
-use Rattle.course.specs.Tries.{Try, End, Runs, final, then, Comes, misses, fires-now, wrote, side}
+use Rattle.rules.specs.Refusals.{Demand, RowDue, Asks, its-step, its-number, its-row, Limits, Within}
+use Rattle.course.specs.Tries.{Try, End, Runs, final, then, Comes, misses, fires-now, wrote, side, RunMeets, trying, paying, later, TryMeets, writing, after-writing, too-deep, within, after-side}
 
 -- STORES
 
@@ -77,8 +77,8 @@ ext-gives {s} (constant-row e) = by-got e (ext-one s _)
 pub ext-due : {s : Store} {r : Result} {xs : List Ptr} {g : Got} → Due s r xs g → Ext s (g .store)
 ext-due d = by-got (d .applied) (ext-trans (ext-gives (d .gives)) (ext-joined _ _ _))
 
-pub ext-written : {s s′ : Store} → Written s s′ → Ext s s′
-ext-written w = record { new = w .new; after = w .after }
+pub ext-row-due : {s s′ : Store} {x : Cell} {now : Store} → RowDue s s′ x now → Ext s now
+ext-row-due q = record { new = q .before; after = q .stand }
 
 -- TALLIES
 
@@ -98,6 +98,11 @@ later-writes m ws = record { steps = le-refl (m .steps); rows = ext-grow (m .sto
 pub later-pays : {m m′ : Tally} {r : Result} {xs : List Ptr} {t : Ptr} → Pays m r xs m′ t → Later m m′
 later-pays {m} p = subst (Later m) (p .then-tally) (record { steps = omega arith; rows = ext-due (p .is-due) })
 
+pub later-asks : {m m₁ : Tally} {r : Result} {xs : List Ptr} {a : Demand} → Asks m r xs a m₁ → Later m m₁
+later-asks {m} its-step = later-refl m
+later-asks {m} (its-number q) = subst (Later m) q (record { steps = omega arith; rows = ext-refl (m .store) })
+later-asks {m} (its-row f d x q) = subst (Later m) q (record { steps = omega arith; rows = ext-row-due x })
+
 module _ (e : Env) where
   mutual
     pub later-runs : {d : ℕ} {m m′ : Tally} {t t′ : Ptr} → Runs e d m t m′ t′ → Later m m′
@@ -109,6 +114,19 @@ module _ (e : Env) where
     later-comes {m = m} fires-now = later-refl m
     later-comes {m = m} (wrote {ws = ws} w c) = later-trans (later-writes m ws) (later-comes c)
     later-comes (side r s c) = later-trans (later-runs r) (later-comes c)
+
+  mutual
+    pub later-run-meets : {d : ℕ} {m m₁ : Tally} {t : Ptr} {a : Demand} → RunMeets e d m t a m₁ → Later m m₁
+    later-run-meets (trying s y) = later-try-meets y
+    later-run-meets (paying s c q) = later-trans (later-comes c) (later-asks q)
+    later-run-meets (later s c p x) = later-trans (later-comes c) (later-trans (later-pays p) (later-run-meets x))
+
+    pub later-try-meets : {d : ℕ} {m m₁ : Tally} {y : Try} {a : Demand} → TryMeets e d m y a m₁ → Later m m₁
+    later-try-meets {m = m} (writing x q) = subst (Later m) q (record { steps = le-refl (m .steps); rows = ext-row-due x })
+    later-try-meets {m = m} (after-writing {ws = ws} w y) = later-trans (later-writes m ws) (later-try-meets y)
+    later-try-meets {m = m} too-deep = later-refl m
+    later-try-meets (within x) = later-run-meets x
+    later-try-meets (after-side r s y) = later-trans (later-runs r) (later-try-meets y)
 
 -- whoever is within the limits was so before
 pub within-earlier : {lim : Limits} {m m′ : Tally} → Later m m′ → Within lim m′ → Within lim m
