@@ -4,3 +4,4 @@ pub mod SaysCharge
 pub mod Says
 pub mod Same
 pub mod Apart
+pub mod First
