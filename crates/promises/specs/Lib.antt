@@ -5,3 +5,4 @@ pub mod Says
 pub mod Same
 pub mod Apart
 pub mod First
+pub mod Complete
