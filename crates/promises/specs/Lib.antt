@@ -6,3 +6,4 @@ pub mod Same
 pub mod Apart
 pub mod First
 pub mod Complete
+pub mod Larger
