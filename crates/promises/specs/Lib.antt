@@ -7,3 +7,4 @@ pub mod Apart
 pub mod First
 pub mod Complete
 pub mod Larger
+pub mod Charge
