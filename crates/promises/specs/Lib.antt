@@ -8,3 +8,4 @@ pub mod First
 pub mod Complete
 pub mod Larger
 pub mod Charge
+pub mod Else
