@@ -1,6 +1,6 @@
 -- Never both: a course that ends within the limits comes to no demand that fails them. It holds for all stores. The demand has at least the depth
 -- of the course that ended: with less, it may be for a level.
-use Prim.Native.Nat.{ℕ, suc, _+_, _≤_, _<_}
+use Prim.Native.Nat.{ℕ, _+_, _≤_, _<_}
 use native.Mathlib.Omega.{arith}
 use mathlib.Core.Path.{_≡_, sym, ap, _∙_, subst}
 use mathlib.Core.List.{List, [], _∷_, _++_, append-cancel-left}
@@ -10,11 +10,11 @@ use Rattle.rules.specs.Rows.{Ptr, Cell, Store, Got}
 use Rattle.rules.specs.RowCheck.{Fits}
 use Rattle.rules.specs.Declarations.{Env}
 use Rattle.rules.specs.Spines.{Spine}
-use Rattle.rules.specs.Firings.{Tally, tally, Result, a-number, NumberFits, number-fits, AllFit, none-left, and-then, Written, Pays}
-use Rattle.rules.specs.Refusals.{Demand, row, RowDue, Asks, its-step, its-number, its-row, Limits, Within, Fails, no-step, no-free-row, no-level, too-large, no-size}
+use Rattle.rules.specs.Firings.{Tally, tally, Result, a-number, NumberFits, number-fits, AllFit, and-then, Written, Pays}
+use Rattle.rules.specs.Refusals.{Demand, row, RowDue, Asks, its-step, its-number, its-row, Limits, Within, Fails, no-step, no-free-row, too-large, no-size}
 use Rattle.course.specs.Tries.{Try, rules, End, Runs, final, then, Comes, wrote, side, RunMeets, trying, paying, later, TryMeets, writing, after-writing, too-deep, within, after-side}
 use Rattle.promises.specs.Stores.{within-earlier, later-trans, later-pays, later-runs, later-comes}
-use Rattle.promises.specs.Same.{SameTerm, SameEnd, spine-same, due-same, not-both, same-firing, pays-on, through-one, runs-same, comes-same}
+use Rattle.promises.specs.Same.{spine-same, due-same, not-both, same-firing, pays-on, through-one, runs-same, comes-same}
 
 -- ROWS
 fit-at : (before : List Cell) (x : Cell) (after : List Cell) → AllFit (before ++ (x ∷ after)) → Fits x

@@ -5,7 +5,7 @@ use native.Mathlib.Omega.{arith}
 use mathlib.Core.Path.{_≡_, refl, sym, ap, _∙_}
 use mathlib.Core.List.{List, [], _∷_, _++_, append-nil, append-assoc}
 use mathlib.Core.Option.{Option, none, some}
-use lib.ListN.{length, drop}
+use lib.ListN.{length}
 use lib.Seq.{drop-length, drop-append-seam}
 use Rattle.rules.specs.Kinds.{app, const, num, Tag, plain, term, body, fields}
 use Rattle.rules.specs.Rows.{Ptr, ptr, blank, Row, var, node, leaf, Cell, Store, cell, cellAt, rowAt, bound, up, Got, got, put}
@@ -16,7 +16,7 @@ use Rattle.rules.specs.HeadTests.{given}
 use Rattle.rules.specs.Refusals.{Limits}
 use Rattle.course.specs.Views.{Cmp, at-most, over, cmp, FitView, fits, no-fit, fitView}
 use Rattle.course.specs.Eval.{onIndex, onField, onRow, onPtr, replaceBy, give, dueOf, emitOn, emit, charge}
-use Rattle.course.specs.Charged.{Out, wrote, refused, lost, and-on, putOn, putIn, joinIn, indexIn, fieldIn, rowIn, ptrIn, replaceIn, giveIn, dueIn}
+use Rattle.course.specs.Charged.{Out, wrote, refused, and-on, putOn, putIn, joinIn, indexIn, fieldIn, rowIn, ptrIn, replaceIn, giveIn, dueIn}
 use Rattle.promises.specs.Stores.{Ext, ext-refl, ext-trans, ext-one}
 
 abbrev pub settleOn : Got → Option ℕ → Out

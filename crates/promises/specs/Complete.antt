@@ -1,7 +1,7 @@
 -- The evaluator is complete: a run within the limits is what it answers, and the demand that fails them is what it refuses with. It holds for all stores,
 -- where the evaluator is not lost.
 use Prim.Native.Nat.{ℕ}
-use mathlib.Core.Path.{_≡_, refl, sym}
+use mathlib.Core.Path.{_≡_, refl}
 use native.Mathlib.Nat.{le-refl}
 use Rattle.rules.specs.Rows.{Ptr, Store}
 use Rattle.rules.specs.Declarations.{Env}

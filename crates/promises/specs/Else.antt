@@ -2,9 +2,9 @@
 -- First for the evaluator, then for the tries, both ways. It holds for all stores.
 use Prim.Native.Nat.{ℕ, suc}
 use mathlib.Core.Path.{_≡_, refl}
-use mathlib.Core.List.{List, []}
+use mathlib.Core.List.{List}
 use mathlib.Core.Option.{Option, none, some}
-use Rattle.rules.specs.Rows.{Ptr, Row, Store, rowAt, grow}
+use Rattle.rules.specs.Rows.{Ptr, rowAt, grow}
 use Rattle.rules.specs.Declarations.{Env}
 use Rattle.rules.specs.Firings.{Tally, tally, Result}
 use Rattle.rules.specs.Refusals.{Demand, Limits}

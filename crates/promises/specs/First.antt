@@ -1,11 +1,10 @@
 -- Two refusals have one number: of the demands that one course comes to within the limits, at most one fails them. It holds for all stores.
-use Prim.Native.Nat.{ℕ, suc, _+_, _≤_, _<_}
+use Prim.Native.Nat.{ℕ, suc, _+_}
 use native.Mathlib.Omega.{arith}
 use native.Mathlib.Nat.{le-refl}
-use mathlib.Core.Path.{_≡_, refl, sym, ap, _∙_, subst}
+use mathlib.Core.Path.{_≡_, refl, sym, ap, _∙_}
 use mathlib.Core.List.{List, [], _∷_, _++_, append-cancel-left}
-use lib.ListN.{length}
-use Rattle.rules.specs.Rows.{Ptr, Cell, Store, Got}
+use Rattle.rules.specs.Rows.{Ptr, Cell, Store}
 use Rattle.rules.specs.Declarations.{Env}
 use Rattle.rules.specs.Firings.{Tally, tally, Result, a-number, NumberFits}
 use Rattle.rules.specs.Refusals.{Demand, step, fitting, row, RowDue, Asks, its-step, its-number, its-row, Limits, Within, Fails, no-step, no-free-row, no-level, too-large, no-size}

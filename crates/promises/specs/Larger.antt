@@ -2,17 +2,17 @@
 -- the evaluator is not lost: what it goes down by is the rows' heights, and they are the same under all budgets.
 use Prim.Native.Nat.{ℕ, zero, suc, _-_, _≤_}
 use native.Mathlib.Omega.{arith}
-use mathlib.Core.Path.{_≡_, refl, subst}
+use mathlib.Core.Path.{_≡_}
 use mathlib.Core.List.{List, [], _∷_, _++_}
 use mathlib.Core.Option.{Option, none, some}
 use lib.ListN.{length, drop}
-use Rattle.rules.specs.Rows.{Ptr, Row, Cell, Store, rowAt, grow, Got}
+use Rattle.rules.specs.Rows.{Ptr, Cell, Store, rowAt, grow, Got}
 use Rattle.rules.specs.Declarations.{Env}
 use Rattle.rules.specs.Firings.{Tally, tally, Result, a-number}
 use Rattle.rules.specs.Refusals.{Limits}
 use Rattle.course.specs.Views.{Cmp, at-most, over, cmp, FitView, fits, no-fit, fitView, NumberView, in-range, too-big, numberView}
 use Rattle.course.specs.Tries.{Try, no-rule, fires, writes, reduces, rules, End, Runs, final, then, Comes, misses, fires-now, wrote, side}
-use Rattle.course.specs.Eval.{Spined, spine, dueOf, Res, ok, no, lost, Ans, missed, firing, refuse, gone, Side, emitOn, emit, charge, paidOn, dueOn, fireOn, fire, wroteOn, spineThen, sideOn, try, atHead, goOn, next, loop, sideAt, eval}
+use Rattle.course.specs.Eval.{Spined, spine, dueOf, Res, ok, no, lost, Ans, missed, firing, refuse, gone, Side, emitOn, emit, paidOn, dueOn, fireOn, fire, wroteOn, spineThen, sideOn, try, atHead, goOn, next, loop, sideAt, eval}
 
 pub record AtLeast (lim lim′ : Limits) : Type 0 where
   pub steps : lim .steps ≤ lim′ .steps

@@ -1,11 +1,11 @@
 -- Two courses from one start end the same, whatever their depths. It holds for all stores.
-use Prim.Native.Nat.{ℕ, suc, _+_, _≤_, _<_}
+use Prim.Native.Nat.{ℕ, suc}
 use native.Mathlib.Omega.{arith}
 use mathlib.Core.Path.{_≡_, refl, sym, ap, _∙_, subst}
-use mathlib.Core.List.{List, [], _∷_}
-use mathlib.Core.Option.{Option, some}
-use Rattle.rules.specs.Kinds.{app, Tag, fields}
-use Rattle.rules.specs.Rows.{Ptr, Row, node, Store, rowAt, up, Got, got, put}
+use mathlib.Core.List.{List, []}
+use mathlib.Core.Option.{Option}
+use Rattle.rules.specs.Kinds.{app, Tag}
+use Rattle.rules.specs.Rows.{Ptr, Row, node, Store, up, Got, got, put}
 use Rattle.rules.specs.Declarations.{Env}
 use Rattle.rules.specs.Replacement.{count, Replaces, same, moved, inside, OnRow, stays, value, moves, children, OnField, word, child, under}
 use Rattle.rules.specs.Spines.{NoApp, Spine, head, through, joined}

@@ -4,7 +4,7 @@ use Prim.Native.Nat.{ℕ, zero, suc, _-_, _≤_, _<_}
 use native.Mathlib.Omega.{arith}
 use mathlib.Core.Path.{refl}
 use mathlib.Core.List.{List, []}
-use mathlib.Core.Option.{Option, none, some}
+use mathlib.Core.Option.{Option}
 use lib.ListN.{length}
 use Rattle.rules.specs.Rows.{Ptr, Row, Store, rowAt, grow, Got}
 use Rattle.rules.specs.Declarations.{Env}
@@ -13,7 +13,7 @@ use Rattle.rules.specs.Firings.{Tally, tally, Result, a-number, Due, NumberFits
 use Rattle.rules.specs.Refusals.{Demand, Asks, its-step, its-number, its-row, Limits, Within, Fails, no-step, no-level, too-large}
 use Rattle.course.specs.Views.{Cmp, at-most, over, cmp, NumberView, in-range, too-big, numberView}
 use Rattle.course.specs.Tries.{Try, no-rule, fires, writes, reduces, rules, missed, firing, Runs, final, then, Comes, misses, fires-now, wrote, side, RunMeets, trying, paying, later, TryMeets, writing, after-writing, too-deep, within, after-side}
-use Rattle.course.specs.Eval.{Spined, spine, dueOf, Res, ok, no, lost, Ans, refuse, gone, Side, charge, paidOn, dueOn, fireOn, fire, wroteOn, spineThen, sideOn, try, atHead, goOn, next, loop, sideAt, eval}
+use Rattle.course.specs.Eval.{Spined, Res, ok, no, lost, Ans, refuse, gone, Side, paidOn, dueOn, fireOn, fire, wroteOn, spineThen, sideOn, try, atHead, goOn, next, loop, sideAt, eval}
 use Rattle.course.specs.Eval as E
 use Rattle.promises.specs.Stores.{ext-due, ext-grow}
 use Rattle.promises.specs.SaysRows.{All, nothing, just, IsSpine, spine-says, due-says}

@@ -1,14 +1,14 @@
 -- Rows charged in turn: all of them may stand, or one of them is the first that may not. It holds for all stores of at most the rows that the limits allow.
 use Prim.Native.Nat.{ℕ, _+_, _≤_, _<_}
 use native.Mathlib.Omega.{arith}
-use mathlib.Core.Path.{_≡_, refl, sym, ap, _∙_, subst}
+use mathlib.Core.Path.{_≡_, refl, ap, _∙_, subst}
 use mathlib.Core.List.{List, [], _∷_, _++_, append-nil, append-assoc}
 use mathlib.Core.Option.{Option, none, some}
 use lib.ListN.{length, drop, length-append}
 use Rattle.rules.specs.Rows.{Cell, Store}
 use Rattle.rules.specs.RowCheck.{Fits}
 use Rattle.rules.specs.Firings.{tally, AllFit, none-left, and-then, Written}
-use Rattle.rules.specs.Refusals.{Demand, row, RowDue, Limits, Fails, no-free-row, no-size}
+use Rattle.rules.specs.Refusals.{row, RowDue, Limits, Fails, no-free-row, no-size}
 use Rattle.course.specs.Views.{Cmp, at-most, over, cmp, FitView, fits, no-fit, fitView}
 use Rattle.course.specs.Eval.{emitOn, emit, charge}
 use Rattle.promises.specs.Stores.{Ext, ext-new}

@@ -3,9 +3,9 @@
 use Prim.Native.Nat.{ℕ, zero, suc, _+_, _-_, _≤_}
 use native.Mathlib.Omega.{arith}
 use mathlib.Core.Path.{_≡_, refl}
-use mathlib.Core.List.{List, [], _∷_}
+use mathlib.Core.List.{List, _∷_}
 use mathlib.Core.Option.{Option, none, some}
-use Rattle.rules.specs.Kinds.{app, Tag, plain, term, body, fields}
+use Rattle.rules.specs.Kinds.{Tag, plain, term, body, fields}
 use Rattle.rules.specs.Rows.{Ptr, Row, var, node, Store, cellAt, rowAt, bound, up, Got}
 use Rattle.rules.specs.Replacement.{count, Replaces, same, moved, inside, OnRow, stays, value, moves, children, OnField, word, child, under}
 use Rattle.rules.specs.Spines.{Spine, head, through}

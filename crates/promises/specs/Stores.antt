@@ -1,5 +1,5 @@
 -- Stores only grow, and so do tallies: whatever is written stands after what stood. It holds for all stores.
-use Prim.Native.Nat.{ℕ, suc, _+_, _≤_}
+use Prim.Native.Nat.{ℕ, _+_, _≤_}
 use native.Mathlib.Omega.{arith}
 use native.Mathlib.Nat.{le-refl, le-trans}
 use mathlib.Core.Path.{_≡_, refl, sym, ap, _∙_, subst}
@@ -12,7 +12,7 @@ use Rattle.rules.specs.Rows.{Ptr, Row, Cell, Store, cell, grow, Got}
 use Rattle.rules.specs.Declarations.{Env}
 use Rattle.rules.specs.Replacement.{Replaces, same, moved, inside, OnRow, stays, value, moves, children, OnField, word, child, under}
 use Rattle.rules.specs.Spines.{joined}
-use Rattle.rules.specs.Firings.{Tally, tally, Result, Gives, by-replacement, no-row, number-row, constant-row, Due, Written, Pays}
+use Rattle.rules.specs.Firings.{Tally, tally, Result, Gives, by-replacement, no-row, number-row, constant-row, Due, Pays}
 use Rattle.rules.specs.Refusals.{Demand, RowDue, Asks, its-step, its-number, its-row, Limits, Within}
 use Rattle.course.specs.Tries.{Try, End, Runs, final, then, Comes, misses, fires-now, wrote, side, RunMeets, trying, paying, later, TryMeets, writing, after-writing, too-deep, within, after-side}
 
