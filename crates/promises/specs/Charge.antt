@@ -37,7 +37,9 @@ module _ (lim : Limits) where
   pub emit-append : (s : Store) (xs ys : List Cell) → emit lim s (xs ++ ys) ≡ first-of (emit lim s xs) (emit lim (s ++ xs) ys)
   unfolding emit
   emit-append s [] ys = rw append-nil
-  emit-append s (x ∷ xs) ys = on _ (emit lim (s ++ (x ∷ [])) xs) (emit lim (s ++ (x ∷ xs)) ys) (fitView x) (cmp (lim .rows) (length s)) (rw append-assoc at (emit-append (s ++ (x ∷ [])) xs ys))
+  emit-append s (x ∷ xs) ys =
+      on _ (emit lim (s ++ (x ∷ [])) xs) (emit lim (s ++ (x ∷ xs)) ys) (fitView x) (cmp (lim .rows) (length s))
+      (rw append-assoc at (emit-append (s ++ (x ∷ [])) xs ys))
     where
       on : (o o₁ o₂ : Option ℕ) (f : FitView x) (c : Cmp (lim .rows) (length s)) → o ≡ first-of o₁ o₂ → emitOn lim x s f c o ≡ first-of (emitOn lim x s f c o₁) o₂
       on o o₁ o₂ (no-fit h) c q = refl
@@ -127,7 +129,8 @@ module _ (lim : Limits) where
     unfolding replaceBy replaceIn
     replace-charges zero c s p = nothing-said
     replace-charges (suc f) c s p =
-        ptr-charges (λ c′ s′ p′. replaceBy v k f c′ s′ p′) (λ c′ s′ p′. replaceIn (lim .rows) v k f c′ s′ p′) (replace-charges f) c s p (cmp (bound s p) c) (cmp (c + count v) (p .shift))
+        ptr-charges (λ c′ s′ p′. replaceBy v k f c′ s′ p′) (λ c′ s′ p′. replaceIn (lim .rows) v k f c′ s′ p′) (replace-charges f) c s p
+        (cmp (bound s p) c) (cmp (c + count v) (p .shift))
 
   -- A FIRING
   pub give-charges : (s : Store) (r : Result) → Charges s (give s r) (giveIn (lim .rows) s r)

@@ -1,14 +1,16 @@
 -- Two refusals have one number: of the demands that one course comes to within the limits, at most one fails them. It holds for all stores.
-use Prim.Native.Nat.{ℕ, suc, _+_}
+use Prim.Native.Nat.{ℕ, suc, _+_, _≤_}
 use native.Mathlib.Omega.{arith}
 use native.Mathlib.Nat.{le-refl}
 use mathlib.Core.Path.{_≡_, refl, sym, ap, _∙_}
 use mathlib.Core.List.{List, [], _∷_, _++_, append-cancel-left}
+use lib.ListN.{length}
 use Rattle.rules.specs.Rows.{Ptr, Cell, Store}
 use Rattle.rules.specs.Declarations.{Env}
-use Rattle.rules.specs.Firings.{Tally, tally, Result, a-number, NumberFits}
+use Rattle.rules.specs.Spines.{Spine}
+use Rattle.rules.specs.Firings.{Tally, tally, Result, a-number, NumberFits, Written, Pays}
 use Rattle.rules.specs.Refusals.{Demand, step, fitting, row, RowDue, Asks, its-step, its-number, its-row, Limits, Within, Fails, no-step, no-free-row, no-level, too-large, no-size}
-use Rattle.course.specs.Tries.{Try, RunMeets, trying, paying, later, TryMeets, writing, after-writing, too-deep, within, after-side}
+use Rattle.course.specs.Tries.{Try, rules, End, firing, Runs, Comes, RunMeets, trying, paying, later, TryMeets, writing, after-writing, too-deep, within, after-side}
 use Rattle.promises.specs.Stores.{within-earlier, later-trans, later-asks, later-pays, later-run-meets, later-try-meets}
 use Rattle.promises.specs.Same.{spine-same, due-same, same-firing, pays-on, through-one, runs-same, comes-same}
 use Rattle.promises.specs.Apart.{row-apart, number-apart, pays-apart, meets-through, runs-apart, comes-apart}
@@ -82,26 +84,42 @@ module _ {lim : Limits} where
   asks-same (its-row f d w q) h (its-row f′ d′ w′ q′) h′ =
       let z = rows-same w (rw (← q) at h) (rw (← due-same d d′) at w′) (rw (← q′) at h′) in record { demand = z .demand; tally = sym q ∙ z .tally ∙ q′ }
 
--- A COURSE
+-- A COURSE: whatever is asked in trying comes before the firing, whatever is asked in a firing before it is paid, and a row's or a side
+-- reduction's demand before what follows it
 module _ (e : Env) (lim : Limits) where
+  trying-first : {d k : ℕ} {m m₁ m₂ : Tally} {t h h′ : Ptr} {xs xs′ : List Ptr} {a : Demand} {o : End} →
+      Spine (m .store) t [] h xs → TryMeets e d m (rules e (m .store) h xs) a m₁ → Fails lim m₁ a k →
+      Spine (m .store) t [] h′ xs′ → Comes e d m (rules e (m .store) h′ xs′) m₂ o → Within lim m₂ → ⊥
+  trying-first s y f s′ c v = comes-apart e lim c v (le-refl _) (meets-through e s′ s y) f
+
+  paying-first : {d k : ℕ} {m m₁ m₂ m₃ n : Tally} {t t′ h h′ : Ptr} {xs xs′ zs zs′ : List Ptr} {r r′ : Result} {a : Demand} →
+      Spine (m .store) t [] h xs → Comes e d m (rules e (m .store) h xs) m₁ (firing r zs) → Asks m₁ r zs a n → Fails lim n a k →
+      Spine (m .store) t [] h′ xs′ → Comes e d m (rules e (m .store) h′ xs′) m₂ (firing r′ zs′) → Pays m₂ r′ zs′ m₃ t′ → Within lim m₃ → ⊥
+  paying-first {n = n} {a = a} s c q f s′ c′ p′ v = pays-apart p′ v (same-firing (comes-same e c′ (through-one e s′ s c)) (λ m r xs. Asks m r xs a n) q) f
+
+  row-first : {m m₁ : Tally} {s now : Store} {x : Cell} {k : ℕ} → RowDue (m .store) s x now → tally (m .steps) now ≡ m₁ → Fails lim m₁ (row x) k →
+      Written (m .store) s → length s ≤ lim .rows → ⊥
+  row-first x q f w v = row-apart w v x (rw (← q) at f)
+
+  side-first : {d k : ℕ} {m m₁ m₂ : Tally} {p t : Ptr} {a : Demand} → RunMeets e d m p a m₁ → Fails lim m₁ a k → Runs e d m p m₂ t → Within lim m₂ → ⊥
+  side-first x f r v = runs-apart e lim r v (le-refl _) x f
+
   mutual
     pub demands-same : {d : ℕ} {m m₁ m₂ : Tally} {t : Ptr} {a b : Demand} {k j : ℕ} → RunMeets e d m t a m₁ → Stops lim m₁ a k →
         RunMeets e d m t b m₂ → Stops lim m₂ b j → SameDemand a b m₁ m₂
     demands-same (trying s y) h (trying s′ y′) h′ = tried-same y h (meets-through e s s′ y′) h′
-    demands-same (trying s y) h (paying s′ c′ q′) h′ =
-        absurd (comes-apart e lim c′ (within-earlier (later-asks q′) (h′ .within)) (le-refl _) (meets-through e s′ s y) (h .fails))
+    demands-same (trying s y) h (paying s′ c′ q′) h′ = absurd (trying-first s y (h .fails) s′ c′ (within-earlier (later-asks q′) (h′ .within)))
     demands-same (trying s y) h (later s′ c′ p′ x′) h′ =
-        absurd (comes-apart e lim c′ (within-earlier (later-trans (later-pays p′) (later-run-meets e x′)) (h′ .within)) (le-refl _) (meets-through e s′ s y) (h .fails))
-    demands-same (paying s c q) h (trying s′ y′) h′ =
-        absurd (comes-apart e lim c (within-earlier (later-asks q) (h .within)) (le-refl _) (meets-through e s s′ y′) (h′ .fails))
+        absurd (trying-first s y (h .fails) s′ c′ (within-earlier (later-trans (later-pays p′) (later-run-meets e x′)) (h′ .within)))
+    demands-same (paying s c q) h (trying s′ y′) h′ = absurd (trying-first s′ y′ (h′ .fails) s c (within-earlier (later-asks q) (h .within)))
     demands-same (paying s c q) h (paying {m₂ = n} {a = b} s′ c′ q′) h′ =
         asks-same q h (same-firing (comes-same e c (through-one e s s′ c′)) (λ m r xs. Asks m r xs b n) q′) h′
-    demands-same (paying {m₂ = n} {a = a} s c q) h (later s′ c′ p′ x′) h′ =
-        absurd (pays-apart p′ (within-earlier (later-run-meets e x′) (h′ .within)) (same-firing (comes-same e c′ (through-one e s′ s c)) (λ m r xs. Asks m r xs a n) q) (h .fails))
+    demands-same (paying s c q) h (later s′ c′ p′ x′) h′ =
+        absurd (paying-first s c q (h .fails) s′ c′ p′ (within-earlier (later-run-meets e x′) (h′ .within)))
     demands-same (later s c p x) h (trying s′ y′) h′ =
-        absurd (comes-apart e lim c (within-earlier (later-trans (later-pays p) (later-run-meets e x)) (h .within)) (le-refl _) (meets-through e s s′ y′) (h′ .fails))
-    demands-same (later s c p x) h (paying {m₂ = n} {a = b} s′ c′ q′) h′ =
-        absurd (pays-apart p (within-earlier (later-run-meets e x) (h .within)) (same-firing (comes-same e c (through-one e s s′ c′)) (λ m r xs. Asks m r xs b n) q′) (h′ .fails))
+        absurd (trying-first s′ y′ (h′ .fails) s c (within-earlier (later-trans (later-pays p) (later-run-meets e x)) (h .within)))
+    demands-same (later s c p x) h (paying s′ c′ q′) h′ =
+        absurd (paying-first s′ c′ q′ (h′ .fails) s c p (within-earlier (later-run-meets e x) (h .within)))
     demands-same (later s c p x) h (later s′ c′ p′ x′) h′ =
         let z = pays-on (comes-same e c (through-one e s s′ c′)) p p′ in demands-same x h (rw (← z .tally, ← z .term) at x′) h′
 
@@ -109,17 +127,13 @@ module _ (e : Env) (lim : Limits) where
         TryMeets e d m y b m₂ → Stops lim m₂ b j → SameDemand a b m₁ m₂
     tried-same (writing w q) h (writing w′ q′) h′ =
         let z = rows-same w (rw (← q) at h) w′ (rw (← q′) at h′) in record { demand = z .demand; tally = sym q ∙ z .tally ∙ q′ }
-    tried-same (writing w q) h (after-writing w′ y′) h′ =
-        absurd (row-apart w′ ((within-earlier (later-try-meets e y′) (h′ .within)) .rows) w (rw (← q) at (h .fails)))
-    tried-same (after-writing w y) h (writing w′ q′) h′ =
-        absurd (row-apart w ((within-earlier (later-try-meets e y) (h .within)) .rows) w′ (rw (← q′) at (h′ .fails)))
+    tried-same (writing x q) h (after-writing w′ y′) h′ = absurd (row-first x q (h .fails) w′ ((within-earlier (later-try-meets e y′) (h′ .within)) .rows))
+    tried-same (after-writing w y) h (writing x′ q′) h′ = absurd (row-first x′ q′ (h′ .fails) w ((within-earlier (later-try-meets e y) (h .within)) .rows))
     tried-same (after-writing w y) h (after-writing w′ y′) h′ = tried-same y h y′ h′
     tried-same too-deep h too-deep h′ = record { demand = refl; tally = refl }
     tried-same (within x) h (within x′) h′ = demands-same x h x′ h′
-    tried-same (within x) h (after-side r′ s′ y′) h′ =
-        absurd (runs-apart e lim r′ (within-earlier (later-try-meets e y′) (h′ .within)) (le-refl _) x (h .fails))
-    tried-same (after-side r s y) h (within x′) h′ =
-        absurd (runs-apart e lim r (within-earlier (later-try-meets e y) (h .within)) (le-refl _) x′ (h′ .fails))
+    tried-same (within x) h (after-side r′ s′ y′) h′ = absurd (side-first x (h .fails) r′ (within-earlier (later-try-meets e y′) (h′ .within)))
+    tried-same (after-side r s y) h (within x′) h′ = absurd (side-first x′ (h′ .fails) r (within-earlier (later-try-meets e y) (h .within)))
     tried-same (after-side r s y) h (after-side r′ s′ y′) h′ =
         let z = runs-same e r r′ in
         let q = spine-same s (rw (← z .tally, ← z .term) at s′) in

@@ -59,7 +59,8 @@ module _ (lim lim′ : Limits) (more : AtLeast lim lim′) where
   emit-larger s [] = all-stand
   emit-larger s (x ∷ xs) = on (fitView x) (cmp (lim .rows) (length s)) (cmp (lim′ .rows) (length s)) (emit-larger (s ++ (x ∷ [])) xs)
     where
-      on : {o o′ : Option ℕ} (f : FitView x) (c : Cmp (lim .rows) (length s)) (c′ : Cmp (lim′ .rows) (length s)) → KeptRows o o′ → KeptRows (emitOn lim x s f c o) (emitOn lim′ x s f c′ o′)
+      on : {o o′ : Option ℕ} (f : FitView x) (c : Cmp (lim .rows) (length s)) (c′ : Cmp (lim′ .rows) (length s)) → KeptRows o o′ →
+          KeptRows (emitOn lim x s f c o) (emitOn lim′ x s f c′ o′)
       on (no-fit n) c c′ k = one-fails
       on (fits h) (at-most l) c′ k = one-fails
       on (fits h) (over l) (at-most l′) k = let z = more .rows in absurd (omega arith)
@@ -88,7 +89,8 @@ module _ (lim lim′ : Limits) (more : AtLeast lim lim′) where
   wrote-larger all-stand k = k
   wrote-larger one-fails k = was-refuse
 
-  spine-larger : {a a′ : Ptr → List Ptr → Ans} (x : Option Spined) → ((h : Ptr) (ys : List Ptr) → KeptAns (a h ys) (a′ h ys)) → KeptAns (spineThen lim a x) (spineThen lim′ a′ x)
+  spine-larger : {a a′ : Ptr → List Ptr → Ans} (x : Option Spined) → ((h : Ptr) (ys : List Ptr) → KeptAns (a h ys) (a′ h ys)) →
+      KeptAns (spineThen lim a x) (spineThen lim′ a′ x)
   spine-larger none k = was-gone
   spine-larger (some h) k = k (h .head) (h .arguments)
 
@@ -104,7 +106,8 @@ module _ (lim lim′ : Limits) (more : AtLeast lim lim′) where
       unfolding try
       try-larger no-rule m = the-miss
       try-larger (fires r xs) m = the-firing
-      try-larger (writes ws y) m = wrote-larger (emit-larger (m .store) (drop (length (m .store)) (grow (m .store) ws))) (try-larger y (tally (m .steps) (grow (m .store) ws)))
+      try-larger (writes ws y) m =
+          wrote-larger (emit-larger (m .store) (drop (length (m .store)) (grow (m .store) ws))) (try-larger y (tally (m .steps) (grow (m .store) ws)))
       try-larger (reduces p y) m = side-then-larger (λ m₁ h ys. try-larger (y (m₁ .store) (rowAt (m₁ .store) (h .row)) ys) m₁) (sd-larger m p)
 
       next-larger : {again again′ : Side} {a a′ : Ans} (t : Ptr) → ((m : Tally) (t : Ptr) → Kept (again m t) (again′ m t)) → KeptAns a a′ →

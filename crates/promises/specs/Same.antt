@@ -98,7 +98,8 @@ pub not-both : {r : Result} {xs : List Ptr} → missed ≡ firing r xs → ⊥
 not-both q = let z : _≡_ {A = ℕ} 0 1 = cc in omega arith
 
 -- the same end is the same firing, and it is paid the same
-pub same-firing : {m m′ : Tally} {r r′ : Result} {xs xs′ : List Ptr} → SameEnd m m′ (firing r xs) (firing r′ xs′) → (P : Tally → Result → List Ptr → Type 0) → P m′ r′ xs′ → P m r xs
+pub same-firing : {m m′ : Tally} {r r′ : Result} {xs xs′ : List Ptr} → SameEnd m m′ (firing r xs) (firing r′ xs′) →
+    (P : Tally → Result → List Ptr → Type 0) → P m′ r′ xs′ → P m r xs
 same-firing {r = r} {r′ = r′} {xs = xs} {xs′ = xs′} z P h =
     let q : firing r xs ≡ firing r′ xs′ = z .end in
     let q₁ : r′ ≡ r = cc in

@@ -13,14 +13,18 @@ use Rattle.course.specs.Views.{Cmp, at-most, over, cmp, FitView, fits, no-fit, 
 use Rattle.course.specs.Eval.{emitOn, emit, charge}
 use Rattle.promises.specs.Stores.{Ext, ext-new}
 
+-- row x fails when the store is `now`, whatever the steps
+abbrev pub RowFails : Limits → Store → Cell → ℕ → Type 0
+RowFails lim now x k = (n : ℕ) → Fails lim (tally n now) (row x) k
+
 module _ (lim : Limits) where
   data EmitSays (s : Store) (xs : List Cell) : Option ℕ → Type 0 where
     e-all : AllFit xs → length (s ++ xs) ≤ lim .rows → EmitSays s xs none
     e-no : {k : ℕ} (before after : List Cell) (x : Cell) → before ++ (x ∷ after) ≡ xs → AllFit before → length (s ++ before) ≤ lim .rows →
-        ((n : ℕ) → Fails lim (tally n (s ++ before)) (row x) k) → EmitSays s xs (some k)
+        RowFails lim (s ++ before) x k → EmitSays s xs (some k)
 
   -- the first row fails
-  e-first : {s : Store} {x : Cell} {xs : List Cell} {k : ℕ} → length s ≤ lim .rows → ((n : ℕ) → Fails lim (tally n s) (row x) k) → EmitSays s (x ∷ xs) (some k)
+  e-first : {s : Store} {x : Cell} {xs : List Cell} {k : ℕ} → length s ≤ lim .rows → RowFails lim s x k → EmitSays s (x ∷ xs) (some k)
   e-first {s} {x} {xs} {k} l f = e-no {k = k} [] xs x refl none-left (rw append-nil l) (λ n. rw append-nil (f n))
 
   -- it may stand: on to the others
@@ -42,7 +46,7 @@ module _ (lim : Limits) where
   -- of the rows from s to s′
   pub data ChargeSays (s s′ : Store) : Option ℕ → Type 0 where
     c-all : Written s s′ → length s′ ≤ lim .rows → ChargeSays s s′ none
-    c-no : {k : ℕ} {x : Cell} {now : Store} → RowDue s s′ x now → length now ≤ lim .rows → ((n : ℕ) → Fails lim (tally n now) (row x) k) → ChargeSays s s′ (some k)
+    c-no : {k : ℕ} {x : Cell} {now : Store} → RowDue s s′ x now → length now ≤ lim .rows → RowFails lim now x k → ChargeSays s s′ (some k)
 
   of-store : {s s′ : Store} {o : Option ℕ} (x : Ext s s′) → EmitSays s (x .new) o → ChargeSays s s′ o
   of-store x (e-all a h) = c-all (record { new = x .new; after = x .after; fit = a }) (rw (x .after) at h)
