@@ -14,7 +14,7 @@ use Rattle.rules.specs.Firings.{Tally, tally, Result, a-number, NumberFits, num
 use Rattle.rules.specs.Refusals.{Demand, row, RowDue, Asks, its-step, its-number, its-row, Limits, Within, Fails, no-step, no-free-row, too-large, no-size}
 use Rattle.course.specs.Tries.{Try, rules, End, Runs, final, then, Comes, wrote, side, RunMeets, trying, paying, later, TryMeets, writing, after-writing, too-deep, within, after-side}
 use Rattle.promises.specs.Stores.{within-earlier, later-trans, later-pays, later-runs, later-comes}
-use Rattle.promises.specs.Same.{spine-same, due-same, not-both, same-firing, pays-on, through-one, runs-same, comes-same}
+use Rattle.promises.specs.Same.{spine-same, due-same, not-both, same-firing, pays-on, side-same, through-one, runs-same, comes-same}
 
 -- ROWS
 fit-at : (before : List Cell) (x : Cell) (after : List Cell) → AllFit (before ++ (x ∷ after)) → Fits x
@@ -73,6 +73,4 @@ module _ (e : Env) where
       comes-apart (side r s c) v l too-deep f = omega arith
       comes-apart (side r s c) v l (within x) f = runs-apart r (within-earlier (later-comes e c) v) (omega arith) x f
       comes-apart (side r s c) v l (after-side r′ s′ y) f =
-          let z = runs-same e r r′ in
-          let q = spine-same s (rw (← z .tally, ← z .term) at s′) in
-          comes-apart c v l (rw (← z .tally, ← q .head, ← q .arguments) at y) f
+          let z = side-same (runs-same e r r′) s s′ in comes-apart c v l (rw (← z .tally, ← z .head, ← z .arguments) at y) f

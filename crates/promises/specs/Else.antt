@@ -46,7 +46,8 @@ module _ (lim : Limits) (sd : Side) where
       rows-then lim (λ m₁. try lim sd z m₁) (try lim sd y m₁) (try lim sd (y or-else z) m₁) (charge lim (m .store) (grow (m .store) ws)) (try-else y z m₁)
   try-else (reduces p y) z m =
       side-then lim (λ m₁. try lim sd z m₁) (λ m₁ h ys. try lim sd (y (m₁ .store) (rowAt (m₁ .store) (h .row)) ys) m₁)
-      (λ m₁ h ys. try lim sd (y (m₁ .store) (rowAt (m₁ .store) (h .row)) ys or-else z) m₁) (sd m p) (λ m₁ h ys. try-else (y (m₁ .store) (rowAt (m₁ .store) (h .row)) ys) z m₁)
+      (λ m₁ h ys. try lim sd (y (m₁ .store) (rowAt (m₁ .store) (h .row)) ys or-else z) m₁) (sd m p)
+      (λ m₁ h ys. try-else (y (m₁ .store) (rowAt (m₁ .store) (h .row)) ys) z m₁)
 
 -- THE TRIES
 module _ (e : Env) where

@@ -12,7 +12,7 @@ use Rattle.rules.specs.Firings.{Tally, tally, Result, a-number, NumberFits, Wri
 use Rattle.rules.specs.Refusals.{Demand, step, fitting, row, RowDue, Asks, its-step, its-number, its-row, Limits, Within, Fails, no-step, no-free-row, no-level, too-large, no-size}
 use Rattle.course.specs.Tries.{Try, rules, End, firing, Runs, Comes, RunMeets, trying, paying, later, TryMeets, writing, after-writing, too-deep, within, after-side}
 use Rattle.promises.specs.Stores.{within-earlier, later-trans, later-asks, later-pays, later-run-meets, later-try-meets}
-use Rattle.promises.specs.Same.{spine-same, due-same, same-firing, pays-on, through-one, runs-same, comes-same}
+use Rattle.promises.specs.Same.{due-same, same-firing, pays-on, side-same, through-one, runs-same, comes-same}
 use Rattle.promises.specs.Apart.{row-apart, number-apart, pays-apart, meets-through, runs-apart, comes-apart}
 
 -- a demand within the limits that fails them
@@ -135,9 +135,7 @@ module _ (e : Env) (lim : Limits) where
     tried-same (within x) h (after-side r′ s′ y′) h′ = absurd (side-first x (h .fails) r′ (within-earlier (later-try-meets e y′) (h′ .within)))
     tried-same (after-side r s y) h (within x′) h′ = absurd (side-first x′ (h′ .fails) r (within-earlier (later-try-meets e y) (h .within)))
     tried-same (after-side r s y) h (after-side r′ s′ y′) h′ =
-        let z = runs-same e r r′ in
-        let q = spine-same s (rw (← z .tally, ← z .term) at s′) in
-        tried-same y h (rw (← z .tally, ← q .head, ← q .arguments) at y′) h′
+        let z = side-same (runs-same e r r′) s s′ in tried-same y h (rw (← z .tally, ← z .head, ← z .arguments) at y′) h′
 
 -- one demand fails with one number
 numbers-same : {lim : Limits} {m : Tally} {a : Demand} {k j : ℕ} → Fails lim m a k → Fails lim m a j → k ≡ j

@@ -1,6 +1,7 @@
 pub mod Stores
 pub mod SaysRows
 pub mod SaysCharge
+pub mod Lost
 pub mod Says
 pub mod Same
 pub mod Apart

@@ -110,6 +110,16 @@ pub pays-on : {m m′ m₁ m₂ : Tally} {r r′ : Result} {xs xs′ : List Ptr}
     Pays m r xs m₁ t₁ → Pays m′ r′ xs′ m₂ t₂ → SameTerm m₁ m₂ t₁ t₂
 pays-on {m₂ = m₂} {t₂ = t₂} z p p′ = pays-same p (same-firing z (λ m r xs. Pays m r xs m₂ t₂) p′)
 
+-- what a side reduction ends in: its tally, head and arguments
+pub record SameSide (m m′ : Tally) (h h′ : Ptr) (ys ys′ : List Ptr) : Type 0 where
+  pub tally : m ≡ m′
+  pub head : h ≡ h′
+  pub arguments : ys ≡ ys′
+
+pub side-same : {m m′ : Tally} {t t′ h h′ : Ptr} {ys ys′ : List Ptr} → SameTerm m m′ t t′ → Spine (m .store) t [] h ys → Spine (m′ .store) t′ [] h′ ys′ →
+    SameSide m m′ h h′ ys ys′
+side-same z s s′ = let q = spine-same s (rw (← z .tally, ← z .term) at s′) in record { tally = z .tally; head = q .head; arguments = q .arguments }
+
 module _ (e : Env) where
   -- the same rules are tried at either reading of the spine
   pub through-one : {d : ℕ} {m m₁ : Tally} {t h h′ : Ptr} {xs xs′ : List Ptr} {o : End} → Spine (m .store) t [] h xs → Spine (m .store) t [] h′ xs′ →
@@ -128,6 +138,4 @@ module _ (e : Env) where
     comes-same fires-now fires-now = record { tally = refl; end = refl }
     comes-same (wrote w c) (wrote w′ c′) = comes-same c c′
     comes-same (side r s c) (side r′ s′ c′) =
-        let z = runs-same r r′ in
-        let q = spine-same s (rw (← z .tally, ← z .term) at s′) in
-        comes-same c (rw (← z .tally, ← q .head, ← q .arguments) at c′)
+        let z = side-same (runs-same r r′) s s′ in comes-same c (rw (← z .tally, ← z .head, ← z .arguments) at c′)
