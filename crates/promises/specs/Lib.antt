@@ -1,0 +1,12 @@
+pub mod Stores
+pub mod SaysRows
+pub mod SaysCharge
+pub mod Lost
+pub mod Says
+pub mod Same
+pub mod Apart
+pub mod First
+pub mod Complete
+pub mod Larger
+pub mod Charge
+pub mod Else
