@@ -1,0 +1,6 @@
+pub mod Places
+pub mod Trees
+pub mod TreeLaws
+pub mod Stores
+pub mod Reading
+pub mod Bounds
