@@ -4,3 +4,4 @@ pub mod TreeLaws
 pub mod Stores
 pub mod Reading
 pub mod Bounds
+pub mod Replacing

@@ -48,10 +48,10 @@ row-fields (reads-let {t = t} {u = u} {w = w} a b c) = record { first = t; secon
 row-fields (reads-proj {t = t} a) = record { first = t; second = any; third = any; reads-first = as-term a; reads-second = no-term; reads-third = no-term; built = refl }
 row-fields reads-num = record { first = any; second = any; third = any; reads-first = no-term; reads-second = no-term; reads-third = no-term; built = refl }
 
-of-term : {s : Store} {p : Ptr} {t : Tree} → ReadsField s term p t → Reads s p t
+pub of-term : {s : Store} {p : Ptr} {t : Tree} → ReadsField s term p t → Reads s p t
 of-term (as-term r) = r
 
-of-body : {s : Store} {p : Ptr} {t : Tree} → ReadsField s body p t → Reads s p t
+pub of-body : {s : Store} {p : Ptr} {t : Tree} → ReadsField s body p t → Reads s p t
 of-body (as-body r) = r
 
 pub fields-row : {s : Store} (κ : Kind) {x y z : Ptr} {t u w : Tree} →
@@ -68,6 +68,15 @@ fields-row (K.num n) a b c = reads-num
 
 pub var-reads : {s : Store} {i : ℕ} {t : Tree} → ReadsRow s (R.var i) t → t ≡ var i
 var-reads reads-var = refl
+
+-- a pointer's row reads as a tree that the pointer's shift takes to t
+pub record BeforeShift (s : Store) (p : Ptr) (t : Tree) : Type 0 where
+  pub tree : Tree
+  pub row : ReadsRow s (rowAt s (p .row)) tree
+  pub is : shift (p .shift) 0 tree ≡ t
+
+pub before-shift : {s : Store} {p : Ptr} {t : Tree} → Reads s p t → BeforeShift s p t
+before-shift (shifted {u = u} r e) = record { tree = u; row = r; is = e }
 
 -- EXACTLY ONE TREE
 
