@@ -5,3 +5,4 @@ pub mod Stores
 pub mod Reading
 pub mod Bounds
 pub mod Replacing
+pub mod Existence
