@@ -6,3 +6,6 @@ pub mod Reading
 pub mod Bounds
 pub mod Replacing
 pub mod Existence
+pub mod Applied
+pub mod Heads
+pub mod Fired

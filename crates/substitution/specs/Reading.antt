@@ -69,14 +69,17 @@ fields-row (K.num n) a b c = reads-num
 pub var-reads : {s : Store} {i : ℕ} {t : Tree} → ReadsRow s (R.var i) t → t ≡ var i
 var-reads reads-var = refl
 
--- a pointer's row reads as a tree that the pointer's shift takes to t
-pub record BeforeShift (s : Store) (p : Ptr) (t : Tree) : Type 0 where
+-- the row w reads as a tree that the shift k takes to t
+pub record RowReads (s : Store) (w : Row) (k : ℕ) (t : Tree) : Type 0 where
   pub tree : Tree
-  pub row : ReadsRow s (rowAt s (p .row)) tree
-  pub is : shift (p .shift) 0 tree ≡ t
+  pub row : ReadsRow s w tree
+  pub is : shift k 0 tree ≡ t
 
-pub before-shift : {s : Store} {p : Ptr} {t : Tree} → Reads s p t → BeforeShift s p t
+pub before-shift : {s : Store} {p : Ptr} {t : Tree} → Reads s p t → RowReads s (rowAt s (p .row)) (p .shift) t
 before-shift (shifted {u = u} r e) = record { tree = u; row = r; is = e }
+
+pub at-row : {s : Store} {p : Ptr} {w : Row} {t : Tree} → rowAt s (p .row) ≡ w → Reads s p t → RowReads s w (p .shift) t
+at-row {s} {p} {t = t} e r = along (λ (w : Row). RowReads s w (p .shift) t) e (before-shift r)
 
 -- EXACTLY ONE TREE
 

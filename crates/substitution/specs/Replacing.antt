@@ -85,7 +85,7 @@ inside-case {t = t} {g = g} u k c n t₀ h e d = record {
 -- ON AN UNSHIFTED ROW
 
 -- a row put at the end reads as it would before
-put-reads : {s : Store} {w : Row} {t : Tree} → Formed s → FieldsOk s (length s) w → ReadsRow s w t → Replaced s (put s w) t
+pub put-reads : {s : Store} {w : Row} {t : Tree} → Formed s → FieldsOk s (length s) w → ReadsRow s w t → Replaced s (put s w) t
 put-reads {s} {w} f o r = record {
   more = ext-put s (cell s w);
   formed = put-formed f o;
@@ -134,7 +134,7 @@ count-one : (v : Option Ptr) → count v ≤ 1
 count-one none = omega arith
 count-one (some v) = omega arith
 
-to : {s : Store} {g g′ : Got} {t : Tree} → g ≡ g′ → Replaced s g t → Replaced s g′ t
+pub to : {s : Store} {g g′ : Got} {t : Tree} → g ≡ g′ → Replaced s g t → Replaced s g′ t
 to {s} {t = t} e d = along (λ (g : Got). Replaced s g t) e d
 
 mutual

@@ -153,6 +153,9 @@ fields-good {s} h f = ext-fields (ext-same s) h (length s) h f
 pub good-fields : {s : Store} {p : Ptr} → Formed s → Good s p → FieldsOk s (length s) (rowAt s (p .row))
 good-fields {p = p} f o = fields-good (omega (arith, o .lower)) (f .each (p .row) (o .lower) .fields)
 
+pub fields-at : {s : Store} {p : Ptr} {w : Row} → Formed s → Good s p → rowAt s (p .row) ≡ w → FieldsOk s (length s) w
+fields-at {s} f o e = subst (FieldsOk s (length s)) e (good-fields f o)
+
 -- what a row's children give it is the same in a grown store
 field-bound-same : {s s′ : Store} {n : ℕ} {p : Ptr} {τ : Tag} → Ext s s′ → n ≤ length s → FieldOk s n p τ → fieldBound s′ τ p ≡ fieldBound s τ p
 unfolding fieldBound
