@@ -30,6 +30,26 @@ pub all-later : {s s′ : Store} {xs : List Ptr} {us : List Tree} → Formed s �
 all-later f e none-left = none-left
 all-later f e (and-then o r q) = and-then (ext-good e o) (reads-later f e o r) (all-later f e q)
 
+-- good pointers alone
+pub data AllGood (s : Store) : List Ptr → Type 0 where
+  no-more : AllGood s []
+  and-good : {a : Ptr} {xs : List Ptr} → Good s a → AllGood s xs → AllGood s (a ∷ xs)
+
+pub all-good : {s : Store} {xs : List Ptr} {us : List Tree} → ReadAll s xs us → AllGood s xs
+all-good none-left = no-more
+all-good (and-then o r q) = and-good o (all-good q)
+
+pub record AllRead (s : Store) (xs : List Ptr) : Type 0 where
+  pub trees : List Tree
+  pub all : ReadAll s xs trees
+
+pub all-read : {s : Store} {xs : List Ptr} → Formed s → AllGood s xs → AllRead s xs
+all-read f no-more = record { trees = []; all = none-left }
+all-read f (and-good o q) =
+    let r = reads-exists f o in
+    let c = all-read f q in
+    record { trees = r .tree ∷ c .trees; all = and-then o (r .reads) (c .all) }
+
 -- DOWN A SPINE
 
 -- the head h and the arguments ys of what reads as t

@@ -12,7 +12,7 @@ use Rattle.rules.specs.Rows.{Ptr, ptr, Row, var, node, Cell, Store, cellAt, row
 use Rattle.rules.specs.RowCheck.{FieldOk, plain-ok, term-ok, body-ok}
 use Rattle.rules.specs.Replacement.{count, Replaces, same, moved, inside, OnRow, stays, value, moves, children, OnField, word, child, under}
 use Rattle.substitution.specs.Places.{Place, below, here, past, place}
-use Rattle.substitution.specs.Stores.{FieldsOk, var-fields, node-fields, Formed, Good, good-fields, Ext, ext-same, ext-then, ext-good, ext-good-field, field-height-same}
+use Rattle.substitution.specs.Stores.{FieldsOk, var-fields, node-fields, Formed, Good, good-fields, Ext, ext-same, ext-then, ext-good, ext-good-field, ext-field-height}
 use Rattle.substitution.specs.Reading.{reads-exists}
 use Rattle.substitution.specs.Replacing.{ValueReads, no-value, a-value, replace-moves}
 
@@ -91,7 +91,7 @@ module _ (v : Option Ptr) (k : ℕ) where
 
   -- a field of a row, after others: its height is the one it had
   later-replaced : {h : ℕ} {s s′ : Store} {p : Ptr} {τ : Tag} → Ready h → (c : ℕ) → Ext s s′ → Formed s′ → FieldOk s (length s) p τ → ValueGood s v → fieldHeight s τ p ≤ h → OnFieldTo v k τ c s′ p
-  later-replaced y c e f o x l = field-replaced y c f (ext-good-field e o) (value-good-later e x) (omega (arith, l, field-height-same e (le-refl _) o))
+  later-replaced y c e f o x l = field-replaced y c f (ext-good-field e o) (value-good-later e x) (omega (arith, l, ext-field-height e (le-refl _) o))
 
   -- the three fields in turn, from the last to the first
   after-three : {c : ℕ} {s : Store} {κ : Kind} {x y z : Ptr} (r : ℕ)

@@ -18,11 +18,11 @@ use Rattle.rules.specs.Firings.{Tally, Result, opened, itself, a-number, a-cons
 use Rattle.rules.specs.HeadRules.{Head}
 use Rattle.rules.specs.ReadOut.{Tree, var, const, app, lam, let′, num, shift, subst, Reads, ReadsRow, reads-const, reads-num}
 use Rattle.substitution.specs.Trees.{shift-high}
-use Rattle.substitution.specs.Stores.{FieldsOk, node-fields, Formed, Good, Ext, ext-same, ext-then, up-child}
+use Rattle.substitution.specs.Stores.{FieldsOk, node-fields, Formed, Good, fields-at, Ext, ext-same, ext-then, up-child}
 use Rattle.substitution.specs.Reading.{Read, reads-exists, at-row, var-reads}
 use Rattle.substitution.specs.Replacing.{Replaced, to, put-reads}
 use Rattle.substitution.specs.Heads.{BodyReads, body-given, BinderReads, lam-reads, LetReads, let-reads, value-reads}
-use Rattle.substitution.specs.Applied.{apply, ReadAll, none-left, and-then, all-later, SpineReads, spine-reads, joined-reads}
+use Rattle.substitution.specs.Applied.{apply, ReadAll, none-left, and-then, all-later, AllGood, all-good, SpineReads, spine-reads, joined-reads}
 
 -- A RESULT
 
@@ -66,7 +66,17 @@ pub head-reads : {s : Store} {t : Ptr} {w : Row} {k : ℕ} {xs : List Ptr} {u : 
 unfolding apply
 head-reads f o r h = spine-reads f o r none-left (h .spine)
 
--- THREE FIRINGS
+-- what is good at a head: its row's fields, its arguments
+pub record HeadGood (s : Store) (w : Row) (xs : List Ptr) : Type 0 where
+  pub fields : FieldsOk s (length s) w
+  pub arguments : AllGood s xs
+
+pub head-good : {s : Store} {t : Ptr} {w : Row} {k : ℕ} {xs : List Ptr} → Formed s → Good s t → Head s t w k xs → HeadGood s w xs
+head-good f o h =
+    let p = head-reads f o (reads-exists f o .reads) h in
+    record { fields = fields-at f (p .good) (h .row); arguments = all-good (p .arguments) }
+
+-- FIRINGS
 
 -- t reads as (λ type. body) argument rest.., and what is due reads as body with the argument put in, applied to the rest
 pub record Beta (s : Store) (t : Ptr) (g : Got) : Type 0 where

@@ -2,6 +2,7 @@ pub mod Places
 pub mod Trees
 pub mod TreeLaws
 pub mod Stores
+pub mod Passing
 pub mod Reading
 pub mod Bounds
 pub mod Replacing
@@ -9,3 +10,4 @@ pub mod Existence
 pub mod Applied
 pub mod Heads
 pub mod Fired
+pub mod Paid

@@ -1,17 +1,16 @@
--- Laws of stores: what the row check gives at a row, what a store grown at its end keeps, a row put at the end.
+-- Laws of stores: formed ones, what a store grown at its end keeps, a row put at the end, a pointer shifted up.
 -- `Formed` is the row check without ranges and sizes. Replacement keeps it also where a row that it writes does not fit, so the
--- laws ask for no more; `AllPass` gives it, and with ranges and sizes it gives `AllPass`.
-use Prim.Native.Nat.{ℕ, zero, suc, _≤_, _<_, pred, max}
+-- laws ask for no more; Passing.antt has its link to the row check. Assumes nothing.
+use Prim.Native.Nat.{ℕ, zero, suc, _-_, _≤_, _<_, pred, max}
 use native.Mathlib.Nat.{le-refl}
 use native.Mathlib.Omega.{arith}
 use mathlib.Core.Path.{_≡_, refl, sym, ap, _∙_, subst}
 use mathlib.Core.List.{List, [], _∷_, _++_, append-assoc, append-nil}
-use lib.ListN.{length, length-append, List·getD-append}
-use lib.Seq.{getD-at}
-use Rattle.rules.specs.Maxima.{most-index}
-use Rattle.rules.specs.Kinds.{Kind, Tag, plain, term, body, fields}
-use Rattle.rules.specs.Rows.{Ptr, ptr, blank, Row, var, node, Cell, Store, cellAt, rowAt, boundOn, bound, upOn, up, fieldBound, fieldHeight, cell, Got, got, put}
-use Rattle.rules.specs.RowCheck.{InRange, ChildOk, FieldOk, plain-ok, term-ok, body-ok, RowOk, var-ok, node-ok, Fits, Passes, AllPass, InScope}
+use lib.ListN.{length, getD, length-append, List·getD-append, List·getD-eq-default}
+use lib.Seq.{getD-at, getD-append-add}
+use Rattle.rules.specs.Kinds.{Kind, sort, Tag, plain, term, body, fields}
+use Rattle.rules.specs.Rows.{Ptr, ptr, blank, Row, var, node, leaf, Cell, Store, cellAt, rowAt, boundOn, bound, upOn, up, fieldBound, fieldHeight, cell, Got, got, put}
+use Rattle.rules.specs.RowCheck.{ChildOk, FieldOk, plain-ok, term-ok, body-ok, InScope}
 use Rattle.rules.specs.Firings.{Written}
 use Rattle.substitution.specs.Places.{Place, below, here, past, place}
 
@@ -49,38 +48,6 @@ term-child (term-ok o) = o
 pub body-child : {s : Store} {n : ℕ} {p : Ptr} → FieldOk s n p body → ChildOk s n p
 body-child (body-ok o) = o
 
--- THE ROW CHECK IN TWO PARTS
-
--- what the row check asks of a row by itself: its plain words, its index
-pub data WordsIn (D : ℕ) : Row → Type 0 where
-  index-in : {i : ℕ} → i ≤ most-index → WordsIn D (var i)
-  words-in : {κ : Kind} {x y z : Ptr} → InRange D κ → WordsIn D (node κ x y z)
-
-pub record CellOk (D : ℕ) (c : Cell) : Type 0 where
-  pub words : WordsIn D (c .row)
-  pub fits : Fits c
-
-row-fields : {D : ℕ} {s : Store} {n : ℕ} {w : Row} → RowOk D s n w → FieldsOk s n w
-row-fields (var-ok h) = var-fields
-row-fields (node-ok h a b c) = node-fields a b c
-
-row-words : {D : ℕ} {s : Store} {n : ℕ} {w : Row} → RowOk D s n w → WordsIn D w
-row-words (var-ok h) = index-in h
-row-words (node-ok h a b c) = words-in h
-
-row-ok : {D : ℕ} {s : Store} {n : ℕ} {w : Row} → WordsIn D w → FieldsOk s n w → RowOk D s n w
-row-ok (index-in h) f = var-ok h
-row-ok (words-in h) f = node-ok h (first-ok f) (second-ok f) (third-ok f)
-
-pub pass-formed : {D : ℕ} {s : Store} → AllPass D s → Formed s
-pass-formed a = record { each = λ n h. record { fields = row-fields (a .each n h .fields); exact = a .each n h .exact } }
-
-pub pass-cell : {D : ℕ} {s : Store} → AllPass D s → (n : ℕ) → n < length s → CellOk D (cellAt s n)
-pass-cell a n h = record { words = row-words (a .each n h .fields); fits = a .each n h .fits }
-
-pub formed-pass : {D : ℕ} {s : Store} → Formed s → ((n : ℕ) → n < length s → CellOk D (cellAt s n)) → AllPass D s
-formed-pass f c = record { each = λ n h. record { fields = row-ok (c n h .words) (f .each n h .fields); exact = f .each n h .exact; fits = c n h .fits } }
-
 pub scope-good : {s : Store} {d : ℕ} {p : Ptr} → InScope s d p → Good s p
 scope-good i = record { lower = i .there; still = i .still }
 
@@ -99,7 +66,7 @@ ext-then {a} e f = record { new = e .new ++ f .new; after = sym (append-assoc a 
 pub ext-put : (s : Store) (c : Cell) → Ext s (s ++ (c ∷ []))
 ext-put s c = record { new = c ∷ []; after = refl }
 
-pub ext-written : {s s′ : Store} → Written s s′ → Ext s s′
+abbrev pub ext-written : {s s′ : Store} → Written s s′ → Ext s s′
 ext-written w = record { new = w .new; after = w .after }
 
 pub ext-length : {s s′ : Store} → Ext s s′ → length s ≤ length s′
@@ -157,34 +124,47 @@ pub fields-at : {s : Store} {p : Ptr} {w : Row} → Formed s → Good s p → ro
 fields-at {s} f o e = subst (FieldsOk s (length s)) e (good-fields f o)
 
 -- what a row's children give it is the same in a grown store
-field-bound-same : {s s′ : Store} {n : ℕ} {p : Ptr} {τ : Tag} → Ext s s′ → n ≤ length s → FieldOk s n p τ → fieldBound s′ τ p ≡ fieldBound s τ p
+ext-field-bound : {s s′ : Store} {n : ℕ} {p : Ptr} {τ : Tag} → Ext s s′ → n ≤ length s → FieldOk s n p τ → fieldBound s′ τ p ≡ fieldBound s τ p
 unfolding fieldBound
-field-bound-same e h (plain-ok o) = refl
-field-bound-same {p = p} e h (term-ok o) = ext-bound e p (omega (arith, o .lower))
-field-bound-same {p = p} e h (body-ok o) = ap pred (ext-bound e p (omega (arith, o .lower)))
+ext-field-bound e h (plain-ok o) = refl
+ext-field-bound {p = p} e h (term-ok o) = ext-bound e p (omega (arith, o .lower))
+ext-field-bound {p = p} e h (body-ok o) = ap pred (ext-bound e p (omega (arith, o .lower)))
 
-pub field-height-same : {s s′ : Store} {n : ℕ} {p : Ptr} {τ : Tag} → Ext s s′ → n ≤ length s → FieldOk s n p τ → fieldHeight s′ τ p ≡ fieldHeight s τ p
+pub ext-field-height : {s s′ : Store} {n : ℕ} {p : Ptr} {τ : Tag} → Ext s s′ → n ≤ length s → FieldOk s n p τ → fieldHeight s′ τ p ≡ fieldHeight s τ p
 unfolding fieldHeight
-field-height-same e h (plain-ok o) = refl
-field-height-same {p = p} e h (term-ok o) = ext-height e p (omega (arith, o .lower))
-field-height-same {p = p} e h (body-ok o) = ext-height e p (omega (arith, o .lower))
+ext-field-height e h (plain-ok o) = refl
+ext-field-height {p = p} e h (term-ok o) = ext-height e p (omega (arith, o .lower))
+ext-field-height {p = p} e h (body-ok o) = ext-height e p (omega (arith, o .lower))
 
-pub cell-same : {s s′ : Store} {n : ℕ} {w : Row} → Ext s s′ → n ≤ length s → FieldsOk s n w → cell s′ w ≡ cell s w
+pub ext-new-cell : {s s′ : Store} {n : ℕ} {w : Row} → Ext s s′ → n ≤ length s → FieldsOk s n w → cell s′ w ≡ cell s w
 unfolding cell
-cell-same e h var-fields = refl
-cell-same e h (node-fields {κ = κ} {x = x} {y = y} {z = z} a b c) = λ i. record {
+ext-new-cell e h var-fields = refl
+ext-new-cell e h (node-fields {κ = κ} {x = x} {y = y} {z = z} a b c) = λ i. record {
   row = node κ x y z;
-  bound = max (max (field-bound-same e h a i) (field-bound-same e h b i)) (field-bound-same e h c i);
-  height = suc (max (max (field-height-same e h a i) (field-height-same e h b i)) (field-height-same e h c i));
+  bound = max (max (ext-field-bound e h a i) (ext-field-bound e h b i)) (ext-field-bound e h c i);
+  height = suc (max (max (ext-field-height e h a i) (ext-field-height e h b i)) (ext-field-height e h c i));
 }
 
-pub formed-same : {s s′ : Store} {n : ℕ} → Ext s s′ → n < length s → FormedAt s n → FormedAt s′ n
-formed-same {s} {s′} {n} e h f =
+pub ext-formed-at : {s s′ : Store} {n : ℕ} → Ext s s′ → n < length s → FormedAt s n → FormedAt s′ n
+ext-formed-at {s} {s′} {n} e h f =
     let same = ext-cell e n h in
     record {
       fields = subst (λ (c : Cell). FieldsOk s′ n (c .row)) (sym same) (ext-fields e (omega arith) n (le-refl n) (f .fields));
-      exact = same ∙ f .exact ∙ sym (cell-same e (omega arith) (f .fields)) ∙ ap (λ (c : Cell). cell s′ (c .row)) (sym same);
+      exact = same ∙ f .exact ∙ sym (ext-new-cell e (omega arith) (f .fields)) ∙ ap (λ (c : Cell). cell s′ (c .row)) (sym same);
     }
+
+-- past the end
+unfoldable pub no-cell : Cell
+no-cell = record { row = leaf (sort 0); bound = 0; height = 1 }
+
+pub past-end : (s : Store) (n : ℕ) → length s ≤ n → cellAt s n ≡ no-cell
+unfolding cellAt no-cell
+past-end s n h = List·getD-eq-default s no-cell h
+
+-- the new cells, counted from the old end
+pub ext-new : {s s′ : Store} (e : Ext s s′) (n : ℕ) → length s ≤ n → cellAt s′ n ≡ getD (e .new) (n - length s) no-cell
+unfolding cellAt no-cell
+ext-new {s} e n h = rw (← (e .after)) (ap (λ (m : ℕ). getD (s ++ e .new) m no-cell) (omega arith) ∙ getD-append-add s (e .new) (n - length s) no-cell)
 
 -- A ROW PUT AT THE END
 
@@ -204,7 +184,7 @@ pub put-length : (s : Store) (w : Row) → length (put s w .store) ≡ suc (leng
 put-length s w = rw length-append (omega arith)
 
 -- the old rows and the new one
-by-end : {P : ℕ → Type 0} (s : Store) (w : Row) → ((n : ℕ) → n < length s → P n) → P (length s) → (n : ℕ) → n < length (put s w .store) → P n
+pub by-end : {P : ℕ → Type 0} (s : Store) (w : Row) → ((n : ℕ) → n < length s → P n) → P (length s) → (n : ℕ) → n < length (put s w .store) → P n
 by-end {P} s w old end n h = go (place n (length s))
   where
     go : Place n (length s) → P n
@@ -216,7 +196,7 @@ pub put-good : (s : Store) (w : Row) → Good (put s w .store) (put s w .at)
 put-good s w = record { lower = omega (arith, put-length s w); still = λ z. refl }
 
 pub put-formed : {s : Store} {w : Row} → Formed s → FieldsOk s (length s) w → Formed (put s w .store)
-put-formed {s} {w} f o = record { each = by-end {P = FormedAt s′} s w (λ n h. formed-same e h (f .each n h)) end }
+put-formed {s} {w} f o = record { each = by-end {P = FormedAt s′} s w (λ n h. ext-formed-at e h (f .each n h)) end }
   where
     s′ : Store
     s′ = put s w .store
@@ -227,16 +207,8 @@ put-formed {s} {w} f o = record { each = by-end {P = FormedAt s′} s w (λ n h.
     end : FormedAt s′ (length s)
     end = record {
       fields = subst (FieldsOk s′ (length s)) (sym (end-row s w)) (ext-fields e (le-refl _) (length s) (le-refl _) o);
-      exact = end-cell s (cell s w) ∙ sym (cell-same e (le-refl _) o) ∙ ap (cell s′) (sym (end-row s w));
+      exact = end-cell s (cell s w) ∙ sym (ext-new-cell e (le-refl _) o) ∙ ap (cell s′) (sym (end-row s w));
     }
-
-pub put-pass : {D : ℕ} {s : Store} {w : Row} → AllPass D s → FieldsOk s (length s) w → CellOk D (cell s w) → AllPass D (put s w .store)
-put-pass {D} {s} {w} a o c = formed-pass (put-formed (pass-formed a) o) (by-end {P = λ n. CellOk D (cellAt s′ n)} s w
-    (λ n h. subst (CellOk D) (sym (ext-cell (ext-put s (cell s w)) n h)) (pass-cell a n h))
-    (subst (CellOk D) (sym (end-cell s (cell s w))) c))
-  where
-    s′ : Store
-    s′ = put s w .store
 
 -- A POINTER SHIFTED UP
 
