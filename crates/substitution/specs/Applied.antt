@@ -71,7 +71,8 @@ record AppParts (s : Store) (f a : Ptr) (k : ℕ) (t : Tree) : Type 0 where
   reads-argument : Reads s (up s a k) argument
   whole : app function argument ≡ t
 
-app-parts : {s : Store} {f a z : Ptr} {t u : Tree} (k : ℕ) → Formed s → FieldsOk s (length s) (node K.app f a z) → ReadsRow s (node K.app f a z) u → shift k 0 u ≡ t → AppParts s f a k t
+app-parts : {s : Store} {f a z : Ptr} {t u : Tree} (k : ℕ) →
+    Formed s → FieldsOk s (length s) (node K.app f a z) → ReadsRow s (node K.app f a z) u → shift k 0 u ≡ t → AppParts s f a k t
 unfolding shift fields table
 app-parts k d o (reads-app {t = x} {u = y} q q′) e = record {
   function = shift k 0 x;
@@ -90,7 +91,8 @@ spine-reads {t = t} {us = us} d o r q (head n) = record { tree = t; trees = us; 
 spine-reads {s} {p} {us = us} d o r q (through {h = h} {ys = ys} e c) =
     let w = at-row e r in
     let b = app-parts (p .shift) d (fields-at d o e) (w .row) (w .is) in
-    along (λ (t : Tree). SpineReads s h ys (apply t us)) (b .whole) (spine-reads d (b .good-function) (b .reads-function) (and-then (b .good-argument) (b .reads-argument) q) c)
+    let r′ = spine-reads d (b .good-function) (b .reads-function) (and-then (b .good-argument) (b .reads-argument) q) c in
+    along (λ (t : Tree). SpineReads s h ys (apply t us)) (b .whole) r′
 
 -- ARGUMENTS JOINED ON
 
@@ -98,7 +100,8 @@ app-fields : {s : Store} {p a : Ptr} → Good s p → Good s a → FieldsOk s (l
 unfolding fields table
 app-fields o q = node-fields (term-ok o) (term-ok q) (plain-ok refl)
 
-pub joined-reads : {s : Store} {p : Ptr} {t : Tree} (xs : List Ptr) {us : List Tree} → Formed s → Good s p → Reads s p t → ReadAll s xs us → Replaced s (joined s p xs) (apply t us)
+pub joined-reads : {s : Store} {p : Ptr} {t : Tree} (xs : List Ptr) {us : List Tree} →
+    Formed s → Good s p → Reads s p t → ReadAll s xs us → Replaced s (joined s p xs) (apply t us)
 unfolding joined apply
 joined-reads {s} [] f o r none-left = record { more = ext-same s; formed = f; good = o; reads = r }
 joined-reads (a ∷ xs) f o r (and-then y q c) =

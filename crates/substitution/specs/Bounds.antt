@@ -23,7 +23,8 @@ lifted-zero : (k d : ℕ) → Lifted k d 0 0
 lifted-zero k d = record { low = λ h. refl; high = λ h. absurd (omega arith) }
 
 lifted-two : {k d a b x y : ℕ} → Lifted k d x a → Lifted k d y b → Lifted k d (max x y) (max a b)
-lifted-two {k} {d} {a} {b} {x} {y} p q = record { low = λ h. omega (arith, p .low (omega arith), q .low (omega arith)); high = λ h. go h (decLe x d) (decLe y d) }
+lifted-two {k} {d} {a} {b} {x} {y} p q =
+    record { low = λ h. omega (arith, p .low (omega arith), q .low (omega arith)); high = λ h. go h (decLe x d) (decLe y d) }
   where
     go : d < max x y → Dec (x ≤ d) → Dec (y ≤ d) → max a b ≡ max x y + k
     go h (yes u) (yes w) = absurd (omega arith)
@@ -74,9 +75,11 @@ lifted-bound {n = suc n} l = l .high (omega arith)
 -- a pointer, from its row
 pointer-loose : {s : Store} {p : Ptr} (u : Tree) → Formed s → Good s p → loose u ≡ cell s (rowAt s (p .row)) .bound → loose (shift (p .shift) 0 u) ≡ bound s p
 pointer-loose {s} {p} u f o e =
-    lifted-bound (loose-shift (p .shift) 0 u) ∙ ap (λ (n : ℕ). boundOn n (p .shift)) (e ∙ ap (λ (c : Cell). c .bound) (sym (f .each (p .row) (o .lower) .exact)))
+    lifted-bound (loose-shift (p .shift) 0 u) ∙
+    ap (λ (n : ℕ). boundOn n (p .shift)) (e ∙ ap (λ (c : Cell). c .bound) (sym (f .each (p .row) (o .lower) .exact)))
 
-pointer-height : {s : Store} {p : Ptr} (u : Tree) → Formed s → Good s p → treeHeight u ≡ cell s (rowAt s (p .row)) .height → treeHeight (shift (p .shift) 0 u) ≡ cellAt s (p .row) .height
+pointer-height : {s : Store} {p : Ptr} (u : Tree) →
+    Formed s → Good s p → treeHeight u ≡ cell s (rowAt s (p .row)) .height → treeHeight (shift (p .shift) 0 u) ≡ cellAt s (p .row) .height
 pointer-height {s} {p} u f o e = height-shift (p .shift) 0 u ∙ e ∙ ap (λ (c : Cell). c .height) (sym (f .each (p .row) (o .lower) .exact))
 
 mutual
@@ -90,9 +93,13 @@ mutual
   row-loose f o reads-sort = refl
   row-loose f o reads-const = refl
   row-loose f o (reads-app a b) = ap₂ max (bound-is-loose f (term-child (first-ok o)) a) (bound-is-loose f (term-child (second-ok o)) b) ∙ sym (max-zero _)
-  row-loose f o (reads-lam a b) = ap₂ max (bound-is-loose f (term-child (first-ok o)) a) (ap pred (bound-is-loose f (body-child (second-ok o)) b)) ∙ sym (max-zero _)
-  row-loose f o (reads-pi a b) = ap₂ max (bound-is-loose f (term-child (first-ok o)) a) (ap pred (bound-is-loose f (body-child (second-ok o)) b)) ∙ sym (max-zero _)
-  row-loose f o (reads-let a b c) = ap₂ max (ap₂ max (bound-is-loose f (term-child (first-ok o)) a) (bound-is-loose f (term-child (second-ok o)) b)) (ap pred (bound-is-loose f (body-child (third-ok o)) c))
+  row-loose f o (reads-lam a b) =
+      ap₂ max (bound-is-loose f (term-child (first-ok o)) a) (ap pred (bound-is-loose f (body-child (second-ok o)) b)) ∙ sym (max-zero _)
+  row-loose f o (reads-pi a b) =
+      ap₂ max (bound-is-loose f (term-child (first-ok o)) a) (ap pred (bound-is-loose f (body-child (second-ok o)) b)) ∙ sym (max-zero _)
+  row-loose f o (reads-let a b c) =
+      ap₂ max (ap₂ max (bound-is-loose f (term-child (first-ok o)) a) (bound-is-loose f (term-child (second-ok o)) b))
+      (ap pred (bound-is-loose f (body-child (third-ok o)) c))
   row-loose f o (reads-proj a) = omega (arith, bound-is-loose f (term-child (first-ok o)) a)
   row-loose f o reads-num = refl
 
@@ -109,7 +116,10 @@ mutual
   row-height f o (reads-app a b) = omega (arith, height-is-height f (term-child (first-ok o)) a, height-is-height f (term-child (second-ok o)) b)
   row-height f o (reads-lam a b) = omega (arith, height-is-height f (term-child (first-ok o)) a, height-is-height f (body-child (second-ok o)) b)
   row-height f o (reads-pi a b) = omega (arith, height-is-height f (term-child (first-ok o)) a, height-is-height f (body-child (second-ok o)) b)
-  row-height f o (reads-let a b c) = omega (arith, height-is-height f (term-child (first-ok o)) a, height-is-height f (term-child (second-ok o)) b, height-is-height f (body-child (third-ok o)) c)
+  row-height f o (reads-let a b c) =
+      let first = height-is-height f (term-child (first-ok o)) a in
+      let second = height-is-height f (term-child (second-ok o)) b in
+      omega (arith, first, second, height-is-height f (body-child (third-ok o)) c)
   row-height f o (reads-proj a) = omega (arith, height-is-height f (term-child (first-ok o)) a)
   row-height f o reads-num = refl
 

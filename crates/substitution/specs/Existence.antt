@@ -78,19 +78,23 @@ module _ (v : Option Ptr) (k : ℕ) where
     at : (c : ℕ) (s : Store) (p : Ptr) → Formed s → Good s p → ValueGood s v → cellAt s (p .row) .height ≤ h → ReplacesTo v k c s p
 
   term-replaced : {c : ℕ} {s : Store} {p : Ptr} → Formed s → Good s p → ValueGood s v → ReplacesTo v k c s p → OnFieldTo v k term c s p
-  term-replaced f o x d = let q = replace-keeps f o x (d .replaces) in record { result = d .result; on-field = child (d .replaces); more = q .more; formed = q .formed }
+  term-replaced f o x d =
+      let q = replace-keeps f o x (d .replaces) in record { result = d .result; on-field = child (d .replaces); more = q .more; formed = q .formed }
 
   body-replaced : {c : ℕ} {s : Store} {p : Ptr} → Formed s → Good s p → ValueGood s v → ReplacesTo v k (suc c) s p → OnFieldTo v k body c s p
-  body-replaced f o x d = let q = replace-keeps f o x (d .replaces) in record { result = d .result; on-field = under (d .replaces); more = q .more; formed = q .formed }
+  body-replaced f o x d =
+      let q = replace-keeps f o x (d .replaces) in record { result = d .result; on-field = under (d .replaces); more = q .more; formed = q .formed }
 
-  field-replaced : {h : ℕ} {s : Store} {p : Ptr} {τ : Tag} → Ready h → (c : ℕ) → Formed s → FieldOk s (length s) p τ → ValueGood s v → fieldHeight s τ p ≤ h → OnFieldTo v k τ c s p
+  field-replaced : {h : ℕ} {s : Store} {p : Ptr} {τ : Tag} →
+      Ready h → (c : ℕ) → Formed s → FieldOk s (length s) p τ → ValueGood s v → fieldHeight s τ p ≤ h → OnFieldTo v k τ c s p
   unfolding fieldHeight
   field-replaced {s = s} {p} r c f (plain-ok o) x l = record { result = got s p; on-field = word refl; more = ext-same s; formed = f }
   field-replaced {s = s} {p} r c f (term-ok o) x l = term-replaced f o x (r .at c s p f o x l)
   field-replaced {s = s} {p} r c f (body-ok o) x l = body-replaced f o x (r .at (suc c) s p f o x l)
 
   -- a field of a row, after others: its height is the one it had
-  later-replaced : {h : ℕ} {s s′ : Store} {p : Ptr} {τ : Tag} → Ready h → (c : ℕ) → Ext s s′ → Formed s′ → FieldOk s (length s) p τ → ValueGood s v → fieldHeight s τ p ≤ h → OnFieldTo v k τ c s′ p
+  later-replaced : {h : ℕ} {s s′ : Store} {p : Ptr} {τ : Tag} →
+      Ready h → (c : ℕ) → Ext s s′ → Formed s′ → FieldOk s (length s) p τ → ValueGood s v → fieldHeight s τ p ≤ h → OnFieldTo v k τ c s′ p
   later-replaced y c e f o x l = field-replaced y c f (ext-good-field e o) (value-good-later e x) (omega (arith, l, ext-field-height e (le-refl _) o))
 
   -- the three fields in turn, from the last to the first
@@ -102,22 +106,24 @@ module _ (v : Option Ptr) (k : ℕ) where
     on-row = children (d₁ .on-field) (d₂ .on-field) (d₃ .on-field) refl;
   }
 
-  after-two : {h c : ℕ} {s : Store} {κ : Kind} {x y z : Ptr} (r : ℕ) → Ready h →
-      (d₁ : OnFieldTo v k (fields κ .first) c s x) → OnFieldTo v k (fields κ .second) c (d₁ .result .store) y →
+  after-two : {h c : ℕ} {s : Store} {κ : Kind} {x y z : Ptr} (r : ℕ) →
+      Ready h → (d₁ : OnFieldTo v k (fields κ .first) c s x) → OnFieldTo v k (fields κ .second) c (d₁ .result .store) y →
       FieldOk s (length s) z (fields κ .third) → ValueGood s v → fieldHeight s (fields κ .third) z ≤ h → OnRowTo v k c s r (node κ x y z)
   after-two {c = c} r i d₁ d₂ o₃ g l₃ = after-three r d₁ d₂ (later-replaced i c (ext-then (d₁ .more) (d₂ .more)) (d₂ .formed) o₃ g l₃)
 
-  after-one : {h c : ℕ} {s : Store} {κ : Kind} {x y z : Ptr} (r : ℕ) → Ready h → OnFieldTo v k (fields κ .first) c s x →
-      FieldOk s (length s) y (fields κ .second) → FieldOk s (length s) z (fields κ .third) → ValueGood s v →
+  after-one : {h c : ℕ} {s : Store} {κ : Kind} {x y z : Ptr} (r : ℕ) →
+      Ready h → OnFieldTo v k (fields κ .first) c s x → FieldOk s (length s) y (fields κ .second) → FieldOk s (length s) z (fields κ .third) → ValueGood s v →
       fieldHeight s (fields κ .second) y ≤ h → fieldHeight s (fields κ .third) z ≤ h → OnRowTo v k c s r (node κ x y z)
   after-one {c = c} r i d₁ o₂ o₃ g l₂ l₃ = after-two r i d₁ (later-replaced i c (d₁ .more) (d₁ .formed) o₂ g l₂) o₃ g l₃
 
-  row-replaced : {h : ℕ} {s : Store} {w : Row} → Ready h → (c r : ℕ) → Formed s → FieldsOk s (length s) w → ValueGood s v → cell s w .height ≤ suc h → OnRowTo v k c s r w
+  row-replaced : {h : ℕ} {s : Store} {w : Row} →
+      Ready h → (c r : ℕ) → Formed s → FieldsOk s (length s) w → ValueGood s v → cell s w .height ≤ suc h → OnRowTo v k c s r w
   unfolding cell
   row-replaced {s = s} i c r f (var-fields {i = j}) g l = var-replaced v k c s r j (place j c)
   row-replaced {s = s} i c r f (node-fields o₁ o₂ o₃) g l = after-one r i (field-replaced i c f o₁ g (omega arith)) o₂ o₃ g (omega arith) (omega arith)
 
-  pointer-replaced : {h : ℕ} {s : Store} {p : Ptr} → Ready h → (c : ℕ) → Formed s → Good s p → ValueGood s v → cellAt s (p .row) .height ≤ suc h → ReplacesTo v k c s p
+  pointer-replaced : {h : ℕ} {s : Store} {p : Ptr} →
+      Ready h → (c : ℕ) → Formed s → Good s p → ValueGood s v → cellAt s (p .row) .height ≤ suc h → ReplacesTo v k c s p
   pointer-replaced {h} {s} {p} i c f o g l = go (decLe (bound s p) c) (decLe (c + count v) (p .shift))
     where
       recorded : cell s (rowAt s (p .row)) .height ≤ suc h
@@ -155,7 +161,8 @@ mutual
   replaces-unique (moved h l e) (inside h′ l′ r′ e′) = absurd (omega arith)
   replaces-unique (inside h l r e) (same h′ e′) = absurd (omega arith)
   replaces-unique (inside h l r e) (moved h′ l′ e′) = absurd (omega arith)
-  replaces-unique {p = p} (inside h l r e) (inside h′ l′ r′ e′) = sym e ∙ ap (λ (g : Got). got (g .store) (up (g .store) (g .at) (p .shift))) (row-unique r r′) ∙ e′
+  replaces-unique {p = p} (inside h l r e) (inside h′ l′ r′ e′) =
+      sym e ∙ ap (λ (g : Got). got (g .store) (up (g .store) (g .at) (p .shift))) (row-unique r r′) ∙ e′
 
   row-unique : {v : Option Ptr} {k c : ℕ} {s : Store} {r : ℕ} {w : Row} {g g′ : Got} → OnRow v k c s r w g → OnRow v k c s r w g′ → g ≡ g′
   row-unique (stays h e) (stays h′ e′) = sym e ∙ e′

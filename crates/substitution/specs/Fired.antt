@@ -16,10 +16,10 @@ use Rattle.rules.specs.Declarations.{Env, valueOf}
 use Rattle.rules.specs.Spines.{Spine, joined}
 use Rattle.rules.specs.Firings.{Tally, Result, opened, itself, a-number, a-constant, Gives, by-replacement, no-row, number-row, constant-row, Due, Pays}
 use Rattle.rules.specs.HeadRules.{Head}
-use Rattle.rules.specs.ReadOut.{Tree, var, const, app, lam, let′, num, shift, subst, Reads, ReadsRow, reads-const, reads-num}
+use Rattle.rules.specs.ReadOut.{Tree, var, const, app, lam, let′, num, shift, subst, Reads, ReadsRow, reads-var, reads-const, reads-num}
 use Rattle.substitution.specs.Trees.{shift-high}
 use Rattle.substitution.specs.Stores.{FieldsOk, node-fields, Formed, Good, fields-at, Ext, ext-same, ext-then, up-child}
-use Rattle.substitution.specs.Reading.{Read, reads-exists, at-row, var-reads}
+use Rattle.substitution.specs.Reading.{Read, reads-exists, at-row}
 use Rattle.substitution.specs.Replacing.{Replaced, to, put-reads}
 use Rattle.substitution.specs.Heads.{BodyReads, body-given, BinderReads, lam-reads, LetReads, let-reads, value-reads}
 use Rattle.substitution.specs.Applied.{apply, ReadAll, none-left, and-then, all-later, AllGood, all-good, SpineReads, spine-reads, joined-reads}
@@ -48,7 +48,8 @@ gives-reads {s} f (number-reads {n = n}) (number-row e) = to e (put-reads f (num
 gives-reads {s} f (constant-reads {d = d}) (constant-row e) = to e (put-reads f (const-fields s d 0) reads-const)
 
 -- what is due: the result applied to the remaining arguments
-pub due-reads : {s : Store} {r : Result} {xs : List Ptr} {g : Got} {t : Tree} {us : List Tree} → Formed s → ResultReads s r t → ReadAll s xs us → Due s r xs g → Replaced s g (apply t us)
+pub due-reads : {s : Store} {r : Result} {xs : List Ptr} {g : Got} {t : Tree} {us : List Tree} →
+    Formed s → ResultReads s r t → ReadAll s xs us → Due s r xs g → Replaced s g (apply t us)
 due-reads {xs = xs} f r q d =
     let a = gives-reads f r (d .gives) in
     let j = joined-reads xs (a .formed) (a .good) (a .reads) (all-later f (a .more) q) in
@@ -57,12 +58,14 @@ due-reads {xs = xs} f r q d =
 -- what is paid for is what was due
 pub pays-due : {m m′ : Tally} {r : Result} {xs : List Ptr} {t′ : Ptr} → Pays m r xs m′ t′ → Due (m .store) r xs (got (m′ .store) t′)
 pays-due {m} {r = r} {xs} {t′} p =
-    along (λ (x : Tally). Due (m .store) r xs (got (x .store) t′)) (p .then-tally) (along (λ (t : Ptr). Due (m .store) r xs (got (p .due .store) t)) (p .then-term) (p .is-due))
+    along (λ (x : Tally). Due (m .store) r xs (got (x .store) t′)) (p .then-tally)
+    (along (λ (t : Ptr). Due (m .store) r xs (got (p .due .store) t)) (p .then-term) (p .is-due))
 
 -- A HEAD
 
 -- a term with its head h and its arguments xs, as the rules find them
-pub head-reads : {s : Store} {t : Ptr} {w : Row} {k : ℕ} {xs : List Ptr} {u : Tree} → Formed s → Good s t → Reads s t u → (h : Head s t w k xs) → SpineReads s (h .at) xs u
+pub head-reads : {s : Store} {t : Ptr} {w : Row} {k : ℕ} {xs : List Ptr} {u : Tree} →
+    Formed s → Good s t → Reads s t u → (h : Head s t w k xs) → SpineReads s (h .at) xs u
 unfolding apply
 head-reads f o r h = spine-reads f o r none-left (h .spine)
 
@@ -103,8 +106,8 @@ pub record Unfolds (s : Store) (t : Ptr) (head : Tree) (s₁ : Store) (g : Got) 
   pub after : Replaced s₁ g (apply value rest)
 
 -- the head and the arguments are read: what remains is which tree each is
-beta-from : {s : Store} {t a x b : Ptr} {k : ℕ} {xs : List Ptr} {u v : Tree} {us : List Tree} {g : Got} → Formed s → BinderReads lam s x b k u →
-    ReadAll s (a ∷ xs) us → apply u us ≡ v → Reads s t v → Due s (opened b a k) xs g → Beta s t g
+beta-from : {s : Store} {t a x b : Ptr} {k : ℕ} {xs : List Ptr} {u v : Tree} {us : List Tree} {g : Got} →
+    Formed s → BinderReads lam s x b k u → ReadAll s (a ∷ xs) us → apply u us ≡ v → Reads s t v → Due s (opened b a k) xs g → Beta s t g
 unfolding apply
 beta-from {s} {t} f l (and-then {u = w} {us = us} o r q) e c d = record {
   type = l .type;
@@ -123,8 +126,8 @@ beta-fires {s} {x = x} {b} {k = k} f o h d =
     let l = lam-reads f (p .good) (h .row) (p .reads) in
     beta-from f (along (λ (n : ℕ). BinderReads lam s x b n (p .tree)) (h .shift) l) (p .arguments) (p .whole) (r .reads) d
 
-zeta-from : {s : Store} {t x v b a : Ptr} {k : ℕ} {xs : List Ptr} {u w : Tree} {us : List Tree} {g : Got} → Formed s → LetReads s x v b k u →
-    ReadAll s xs us → apply u us ≡ w → Reads s t w → up s v k ≡ a → Due s (opened b a k) xs g → Zeta s t g
+zeta-from : {s : Store} {t x v b a : Ptr} {k : ℕ} {xs : List Ptr} {u w : Tree} {us : List Tree} {g : Got} →
+    Formed s → LetReads s x v b k u → ReadAll s xs us → apply u us ≡ w → Reads s t w → up s v k ≡ a → Due s (opened b a k) xs g → Zeta s t g
 zeta-from {s} {t} {us = us} f l q e c i d = record {
   type = l .type;
   value = l .value;
@@ -143,23 +146,27 @@ zeta-fires {s} {x = x} {v} {b} f o h e d =
     zeta-from f (along (λ (n : ℕ). LetReads s x v b n (p .tree)) (h .shift) l) (p .arguments) (p .whole) (r .reads) e d
 
 -- a pointer for the head, the arguments as they were
-unfolds-from : {s s₁ : Store} {t p : Ptr} {xs : List Ptr} {h h′ u value : Tree} {us : List Tree} {g : Got} → Formed s → Reads s t u → apply h us ≡ u → h ≡ h′ → ReadAll s xs us →
-    Ext s s₁ → Formed s₁ → Good s₁ p → Reads s₁ p value → Due s₁ (itself p) xs g → Unfolds s t h′ s₁ g value
+unfolds-from : {s s₁ : Store} {t p : Ptr} {xs : List Ptr} {h h′ u value : Tree} {us : List Tree} {g : Got} →
+    Formed s → Reads s t u → apply h us ≡ u → h ≡ h′ → ReadAll s xs us → Ext s s₁ → Formed s₁ → Good s₁ p → Reads s₁ p value → Due s₁ (itself p) xs g →
+    Unfolds s t h′ s₁ g value
 unfolds-from {s} {t = t} {us = us} f r e i q x f₁ o c d = record {
   rest = us;
   before = along (Reads s t) (sym e ∙ ap (λ (z : Tree). apply z us) i) r;
   after = due-reads f₁ (itself-reads o c) (all-later f x q) d;
 }
 
+var-tree : {s : Store} {i : ℕ} {t u : Tree} (k : ℕ) → ReadsRow s (R.var i) u → shift k 0 u ≡ t → t ≡ var (i + k)
+var-tree {i = i} k reads-var e = sym e ∙ shift-high k 0 i (omega arith)
+
 -- the variable is i under the head's shift k; its context value v is brought past the newest records, its own among them
 pub variable-fires : (e : Env) {s : Store} {t v u : Ptr} {k i : ℕ} {xs : List Ptr} {g : Got} {value : Tree} →
-    Formed s → Good s t → Good s v → Reads s v value → Head s t (R.var i) k xs → valueOf e (i + k) ≡ some v → up s v (suc (i + k)) ≡ u → Due s (itself u) xs g →
-    Unfolds s t (var (i + k)) s g (shift (suc (i + k)) 0 value)
+    Formed s → Good s t → Good s v → Reads s v value → Head s t (R.var i) k xs → valueOf e (i + k) ≡ some v → up s v (suc (i + k)) ≡ u →
+    Due s (itself u) xs g → Unfolds s t (var (i + k)) s g (shift (suc (i + k)) 0 value)
 variable-fires env {s} {k = k} {i} {value = value} f o y c h a e d =
     let r = reads-exists f o in
     let p = head-reads f o (r .reads) h in
     let w = at-row (h .row) (p .reads) in
-    let is-var : p .tree ≡ var (i + k) = sym (w .is) ∙ ap (shift (h .at .shift) 0) (var-reads (w .row)) ∙ shift-high (h .at .shift) 0 i (omega arith) ∙ ap (λ (n : ℕ). var (i + n)) (h .shift) in
+    let is-var : p .tree ≡ var (i + k) = var-tree (h .at .shift) (w .row) (w .is) ∙ ap (λ (n : ℕ). var (i + n)) (h .shift) in
     unfolds-from f (r .reads) (p .whole) is-var (p .arguments) (ext-same s) f (along (Good s) e (up-child (suc (i + k)) y))
     (along (λ (z : Ptr). Reads s z (shift (suc (i + k)) 0 value)) e (value-reads (i + k) f y c)) d
 

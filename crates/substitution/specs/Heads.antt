@@ -47,8 +47,9 @@ pub record BinderReads (binder : Tree → Tree → Tree) (s : Store) (x b : Ptr)
   pub under : BodyReads s b k body
   pub is : binder type body ≡ t
 
-binder-parts : {s : Store} {x b : Ptr} {t u w : Tree} (binder : Tree → Tree → Tree) (k : ℕ) → Formed s →
-    FieldOk s (length s) x K.term → FieldOk s (length s) b K.body → Reads s x t → Reads s b u → binder (shift k 0 t) (shift k 1 u) ≡ w → BinderReads binder s x b k w
+binder-parts : {s : Store} {x b : Ptr} {t u w : Tree} (binder : Tree → Tree → Tree) (k : ℕ) →
+    Formed s → FieldOk s (length s) x K.term → FieldOk s (length s) b K.body → Reads s x t → Reads s b u → binder (shift k 0 t) (shift k 1 u) ≡ w →
+    BinderReads binder s x b k w
 binder-parts {t = t} {u = u} binder k f o y q r e = record {
   type = shift k 0 t;
   body = shift k 1 u;
@@ -58,18 +59,22 @@ binder-parts {t = t} {u = u} binder k f o y q r e = record {
   is = e;
 }
 
-lam-row : {s : Store} {x b z : Ptr} {t u : Tree} (k : ℕ) → Formed s → FieldsOk s (length s) (node K.lam x b z) → ReadsRow s (node K.lam x b z) u → shift k 0 u ≡ t → BinderReads lam s x b k t
+lam-row : {s : Store} {x b z : Ptr} {t u : Tree} (k : ℕ) →
+    Formed s → FieldsOk s (length s) (node K.lam x b z) → ReadsRow s (node K.lam x b z) u → shift k 0 u ≡ t → BinderReads lam s x b k t
 unfolding shift fields table
 lam-row k f o (reads-lam q r) e = binder-parts lam k f (first-ok o) (second-ok o) q r e
 
-pi-row : {s : Store} {x b z : Ptr} {t u : Tree} (k : ℕ) → Formed s → FieldsOk s (length s) (node K.pi x b z) → ReadsRow s (node K.pi x b z) u → shift k 0 u ≡ t → BinderReads pi s x b k t
+pi-row : {s : Store} {x b z : Ptr} {t u : Tree} (k : ℕ) →
+    Formed s → FieldsOk s (length s) (node K.pi x b z) → ReadsRow s (node K.pi x b z) u → shift k 0 u ≡ t → BinderReads pi s x b k t
 unfolding shift fields table
 pi-row k f o (reads-pi q r) e = binder-parts pi k f (first-ok o) (second-ok o) q r e
 
-pub lam-reads : {s : Store} {p x b z : Ptr} {t : Tree} → Formed s → Good s p → rowAt s (p .row) ≡ node K.lam x b z → Reads s p t → BinderReads lam s x b (p .shift) t
+pub lam-reads : {s : Store} {p x b z : Ptr} {t : Tree} →
+    Formed s → Good s p → rowAt s (p .row) ≡ node K.lam x b z → Reads s p t → BinderReads lam s x b (p .shift) t
 lam-reads {p = p} f o e r = let w = at-row e r in lam-row (p .shift) f (fields-at f o e) (w .row) (w .is)
 
-pub pi-reads : {s : Store} {p x b z : Ptr} {t : Tree} → Formed s → Good s p → rowAt s (p .row) ≡ node K.pi x b z → Reads s p t → BinderReads pi s x b (p .shift) t
+pub pi-reads : {s : Store} {p x b z : Ptr} {t : Tree} →
+    Formed s → Good s p → rowAt s (p .row) ≡ node K.pi x b z → Reads s p t → BinderReads pi s x b (p .shift) t
 pi-reads {p = p} f o e r = let w = at-row e r in pi-row (p .shift) f (fields-at f o e) (w .row) (w .is)
 
 -- a let: its type, value and body, shifted with it
@@ -82,7 +87,8 @@ pub record LetReads (s : Store) (x v b : Ptr) (k : ℕ) (t : Tree) : Type 0 wher
   pub under : BodyReads s b k body
   pub is : let′ type value body ≡ t
 
-let-row : {s : Store} {x v b : Ptr} {t u : Tree} (k : ℕ) → Formed s → FieldsOk s (length s) (node K.let′ x v b) → ReadsRow s (node K.let′ x v b) u → shift k 0 u ≡ t → LetReads s x v b k t
+let-row : {s : Store} {x v b : Ptr} {t u : Tree} (k : ℕ) →
+    Formed s → FieldsOk s (length s) (node K.let′ x v b) → ReadsRow s (node K.let′ x v b) u → shift k 0 u ≡ t → LetReads s x v b k t
 unfolding shift fields table
 let-row k f o (reads-let {t = t} {u = u} {w = w} q r c) e = record {
   type = shift k 0 t;
@@ -94,7 +100,8 @@ let-row k f o (reads-let {t = t} {u = u} {w = w} q r c) e = record {
   is = e;
 }
 
-pub let-reads : {s : Store} {p x v b : Ptr} {t : Tree} → Formed s → Good s p → rowAt s (p .row) ≡ node K.let′ x v b → Reads s p t → LetReads s x v b (p .shift) t
+pub let-reads : {s : Store} {p x v b : Ptr} {t : Tree} →
+    Formed s → Good s p → rowAt s (p .row) ≡ node K.let′ x v b → Reads s p t → LetReads s x v b (p .shift) t
 let-reads {p = p} f o e r = let w = at-row e r in let-row (p .shift) f (fields-at f o e) (w .row) (w .is)
 
 -- THE THREE RULES

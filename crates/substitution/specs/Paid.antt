@@ -37,13 +37,15 @@ mutual
   replace-worded a (moved h l e) = at e a
   replace-worded {p = p} a (inside h l q e) = at e (row-worded a (a .each (p .row)) q)
 
-  row-worded : {D : ℕ} {v : Option Ptr} {k c : ℕ} {s : Store} {r : ℕ} {w : Row} {g : Got} → AllWorded D s → Worded D w → OnRow v k c s r w g → AllWorded D (g .store)
+  row-worded : {D : ℕ} {v : Option Ptr} {k c : ℕ} {s : Store} {r : ℕ} {w : Row} {g : Got} →
+      AllWorded D s → Worded D w → OnRow v k c s r w g → AllWorded D (g .store)
   row-worded a b (stays h e) = at e a
   row-worded a b (value h z e) = at e a
   row-worded a b (moves h e) = at e (put-worded a var-worded)
   row-worded a b (children q₁ q₂ q₃ e) = at e (put-worded (field-worded (field-worded (field-worded a q₁) q₂) q₃) (kind-of b))
 
-  field-worded : {D : ℕ} {v : Option Ptr} {k : ℕ} {τ : Tag} {c : ℕ} {s : Store} {p : Ptr} {g : Got} → AllWorded D s → OnField v k τ c s p g → AllWorded D (g .store)
+  field-worded : {D : ℕ} {v : Option Ptr} {k : ℕ} {τ : Tag} {c : ℕ} {s : Store} {p : Ptr} {g : Got} →
+      AllWorded D s → OnField v k τ c s p g → AllWorded D (g .store)
   field-worded a (word e) = at e a
   field-worded a (child q) = replace-worded a q
   field-worded a (under q) = replace-worded a q
@@ -76,7 +78,8 @@ gives-worded a (itself-good o) n (no-row e) = at e a
 gives-worded a number-good n (number-row e) = at e (put-worded a (node-worded (num-in (number-in n))))
 gives-worded a (constant-good h) n (constant-row e) = at e (put-worded a (node-worded (const-in h (omega arith))))
 
-due-worded : {D : ℕ} {s : Store} {r : Result} {xs : List Ptr} {g : Got} → AllWorded D s → ResultGood D s r → NumberFits r → Due s r xs g → AllWorded D (g .store)
+due-worded : {D : ℕ} {s : Store} {r : Result} {xs : List Ptr} {g : Got} →
+    AllWorded D s → ResultGood D s r → NumberFits r → Due s r xs g → AllWorded D (g .store)
 due-worded {xs = xs} a o n d = at (d .applied) (joined-worded (d .result .at) xs (gives-worded a o n (d .gives)))
 
 -- a good result reads as a tree, so what is due is formed

@@ -94,7 +94,8 @@ pub written-sized : {s s′ : Store} → AllSized s → Written s s′ → AllSi
 written-sized {s} {s′} z w = record { each = λ n h. go n h (place n (length s)) }
   where
     from : (n : ℕ) → n < length s′ → length s ≤ n → Fits (cellAt s′ n)
-    from n h q = subst Fits (sym (ext-new (ext-written w) n q)) (fits-at (w .fit) (n - length s) (omega (arith, length-append s (w .new), ap length (w .after))))
+    from n h q =
+        subst Fits (sym (ext-new (ext-written w) n q)) (fits-at (w .fit) (n - length s) (omega (arith, length-append s (w .new), ap length (w .after))))
 
     go : (n : ℕ) → n < length s′ → Place n (length s) → Fits (cellAt s′ n)
     go n h (below q) = subst Fits (sym (ext-cell (ext-written w) n q)) (z .each n q)

@@ -41,11 +41,16 @@ pub row-fields : {s : Store} {κ : Kind} {x y z : Ptr} {t : Tree} → ReadsRow s
 unfolding build fields table
 row-fields reads-sort = record { first = any; second = any; third = any; reads-first = no-term; reads-second = no-term; reads-third = no-term; built = refl }
 row-fields reads-const = record { first = any; second = any; third = any; reads-first = no-term; reads-second = no-term; reads-third = no-term; built = refl }
-row-fields (reads-app {t = t} {u = u} a b) = record { first = t; second = u; third = any; reads-first = as-term a; reads-second = as-term b; reads-third = no-term; built = refl }
-row-fields (reads-lam {t = t} {u = u} a b) = record { first = t; second = u; third = any; reads-first = as-term a; reads-second = as-body b; reads-third = no-term; built = refl }
-row-fields (reads-pi {t = t} {u = u} a b) = record { first = t; second = u; third = any; reads-first = as-term a; reads-second = as-body b; reads-third = no-term; built = refl }
-row-fields (reads-let {t = t} {u = u} {w = w} a b c) = record { first = t; second = u; third = w; reads-first = as-term a; reads-second = as-term b; reads-third = as-body c; built = refl }
-row-fields (reads-proj {t = t} a) = record { first = t; second = any; third = any; reads-first = as-term a; reads-second = no-term; reads-third = no-term; built = refl }
+row-fields (reads-app {t = t} {u = u} a b) =
+    record { first = t; second = u; third = any; reads-first = as-term a; reads-second = as-term b; reads-third = no-term; built = refl }
+row-fields (reads-lam {t = t} {u = u} a b) =
+    record { first = t; second = u; third = any; reads-first = as-term a; reads-second = as-body b; reads-third = no-term; built = refl }
+row-fields (reads-pi {t = t} {u = u} a b) =
+    record { first = t; second = u; third = any; reads-first = as-term a; reads-second = as-body b; reads-third = no-term; built = refl }
+row-fields (reads-let {t = t} {u = u} {w = w} a b c) =
+    record { first = t; second = u; third = w; reads-first = as-term a; reads-second = as-term b; reads-third = as-body c; built = refl }
+row-fields (reads-proj {t = t} a) =
+    record { first = t; second = any; third = any; reads-first = as-term a; reads-second = no-term; reads-third = no-term; built = refl }
 row-fields reads-num = record { first = any; second = any; third = any; reads-first = no-term; reads-second = no-term; reads-third = no-term; built = refl }
 
 pub of-term : {s : Store} {p : Ptr} {t : Tree} → ReadsField s term p t → Reads s p t
@@ -65,9 +70,6 @@ fields-row K.pi a b c = reads-pi (of-term a) (of-body b)
 fields-row K.let′ a b c = reads-let (of-term a) (of-term b) (of-body c)
 fields-row (K.proj d i) a b c = reads-proj (of-term a)
 fields-row (K.num n) a b c = reads-num
-
-pub var-reads : {s : Store} {i : ℕ} {t : Tree} → ReadsRow s (R.var i) t → t ≡ var i
-var-reads reads-var = refl
 
 -- the row w reads as a tree that the shift k takes to t
 pub record RowReads (s : Store) (w : Row) (k : ℕ) (t : Tree) : Type 0 where
@@ -133,7 +135,8 @@ rows-below f zero h r q = absurd (omega arith)
 rows-below f (suc n) h r q = read-row (λ r′ q′. rows-below f n (omega arith) r′ (omega arith)) (f .each r (omega arith) .fields)
 
 pub reads-exists : {s : Store} {p : Ptr} → Formed s → Good s p → Read s p
-reads-exists {s} {p} f o = let r = rows-below f (length s) (le-refl _) (p .row) (o .lower) in record { tree = shift (p .shift) 0 (r .tree); reads = shifted (r .reads) refl }
+reads-exists {s} {p} f o =
+    let r = rows-below f (length s) (le-refl _) (p .row) (o .lower) in record { tree = shift (p .shift) 0 (r .tree); reads = shifted (r .reads) refl }
 
 -- AN UNSHIFTED POINTER, A GROWN STORE
 
@@ -154,7 +157,8 @@ mutual
   row-later f x o (reads-app a b) = reads-app (reads-later f x (term-child (first-ok o)) a) (reads-later f x (term-child (second-ok o)) b)
   row-later f x o (reads-lam a b) = reads-lam (reads-later f x (term-child (first-ok o)) a) (reads-later f x (body-child (second-ok o)) b)
   row-later f x o (reads-pi a b) = reads-pi (reads-later f x (term-child (first-ok o)) a) (reads-later f x (body-child (second-ok o)) b)
-  row-later f x o (reads-let a b c) = reads-let (reads-later f x (term-child (first-ok o)) a) (reads-later f x (term-child (second-ok o)) b) (reads-later f x (body-child (third-ok o)) c)
+  row-later f x o (reads-let a b c) =
+      reads-let (reads-later f x (term-child (first-ok o)) a) (reads-later f x (term-child (second-ok o)) b) (reads-later f x (body-child (third-ok o)) c)
   row-later f x o (reads-proj a) = reads-proj (reads-later f x (term-child (first-ok o)) a)
   row-later f x o reads-num = reads-num
 

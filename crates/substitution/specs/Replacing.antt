@@ -59,8 +59,8 @@ put-reads {s} {w} f o r = record {
 open-good : {s : Store} {p : Ptr} {c : ℕ} (k : ℕ) → Good s p → c < bound s p → Good s (ptr (p .row) k)
 open-good {p = p} k o h = record { lower = o .lower; still = λ z. absurd (omega (arith, h, ap (λ (n : ℕ). boundOn n (p .shift)) z)) }
 
-moved-tree : {s : Store} {v : Option Ptr} {u : Option Tree} (k c n : ℕ) (t : Tree) → ValueReads s v u → c + count v ≤ n →
-    shift (n - count v + k) 0 t ≡ move u k c (shift n 0 t)
+moved-tree : {s : Store} {v : Option Ptr} {u : Option Tree} (k c n : ℕ) (t : Tree) →
+    ValueReads s v u → c + count v ≤ n → shift (n - count v + k) 0 t ≡ move u k c (shift n 0 t)
 moved-tree {u = u} k c n t x h =
     ap (λ (m : ℕ). shift (n - m + k) 0 t) (sym (value-count x)) ∙ sym (move-shift u k c n 0 t (omega arith) (omega (arith, value-count x)))
 
@@ -78,7 +78,8 @@ module _ {s : Store} (k c : ℕ) (f : Formed s) where
     reads = along (Reads s p) (sym (move-closed u k c t (omega (arith, bound-is-loose f o r)))) r;
   }
 
-  moved-case : {p : Ptr} {t : Tree} {v : Option Ptr} {u : Option Tree} → Good s p → ValueReads s v u → Reads s p t → c < bound s p → c + count v ≤ p .shift →
+  moved-case : {p : Ptr} {t : Tree} {v : Option Ptr} {u : Option Tree} →
+      Good s p → ValueReads s v u → Reads s p t → c < bound s p → c + count v ≤ p .shift →
       Replaced s (got s (ptr (p .row) (p .shift - count v + k))) (move u k c t)
   moved-case {p} {u = u} o x (shifted {u = t₀} r e) h l = record {
     more = ext-same s;
@@ -103,15 +104,17 @@ module _ {s : Store} (k c : ℕ) (f : Formed s) where
     reads = along (Reads s (up s x c)) (sym (move-here w k c i h)) (reads-up c f o r);
   }
 
-  value-case : {v : Option Ptr} {x : Ptr} {u : Option Tree} (i : ℕ) → ValueReads s v u → v ≡ some x → i ≡ c → Replaced s (got s (up s x c)) (move u k c (var i))
+  value-case : {v : Option Ptr} {x : Ptr} {u : Option Tree} (i : ℕ) →
+      ValueReads s v u → v ≡ some x → i ≡ c → Replaced s (got s (up s x c)) (move u k c (var i))
   value-case {u = u} i y e h = value-there i (along (λ (v : Option Ptr). ValueReads s v u) e y) h
 
-  moves-case : {v : Option Ptr} {u : Option Tree} (i : ℕ) → ValueReads s v u → c + count v ≤ i → Replaced s (put s (R.var (i - count v + k))) (move u k c (var i))
+  moves-case : {v : Option Ptr} {u : Option Tree} (i : ℕ) →
+      ValueReads s v u → c + count v ≤ i → Replaced s (put s (R.var (i - count v + k))) (move u k c (var i))
   moves-case i x h = along (Replaced s _) (moved-index k c i x h) (put-reads f var-fields reads-var)
 
 -- from what the unshifted row leaves, n the pointer's shift
-inside-case : {s : Store} {t : Tree} {g : Got} (u : Option Tree) (k c n : ℕ) (t₀ : Tree) → n ≤ c → shift n 0 t₀ ≡ t → Replaced s g (move u k (c - n) t₀) →
-    Replaced s (got (g .store) (up (g .store) (g .at) n)) (move u k c t)
+inside-case : {s : Store} {t : Tree} {g : Got} (u : Option Tree) (k c n : ℕ) (t₀ : Tree) →
+    n ≤ c → shift n 0 t₀ ≡ t → Replaced s g (move u k (c - n) t₀) → Replaced s (got (g .store) (up (g .store) (g .at) n)) (move u k c t)
 inside-case {t = t} {g = g} u k c n t₀ h e d = record {
   more = d .more;
   formed = d .formed;
@@ -142,8 +145,9 @@ count-one (some v) = omega arith
 pub to : {s : Store} {g g′ : Got} {t : Tree} → g ≡ g′ → Replaced s g t → Replaced s g′ t
 to {s} {t = t} e d = along (λ (g : Got). Replaced s g t) e d
 
-as-field : {s : Store} {τ : Tag} {g : Got} {t : Tree} → (Good (g .store) (g .at) → FieldOk (g .store) (length (g .store)) (g .at) τ) →
-    (Reads (g .store) (g .at) t → ReadsField (g .store) τ (g .at) t) → Replaced s g t → FieldReplaced s τ g t
+as-field : {s : Store} {τ : Tag} {g : Got} {t : Tree} →
+    (Good (g .store) (g .at) → FieldOk (g .store) (length (g .store)) (g .at) τ) → (Reads (g .store) (g .at) t → ReadsField (g .store) τ (g .at) t) →
+    Replaced s g t → FieldReplaced s τ g t
 as-field good reads d = record { more = d .more; formed = d .formed; good = good (d .good); reads = reads (d .reads) }
 
 mutual
@@ -158,7 +162,8 @@ mutual
       to e (inside-case u k c (p .shift) (b .tree) (omega (arith, count-one v)) (b .is) d)
 
   row-moves : {v : Option Ptr} {u : Option Tree} {k c : ℕ} {s : Store} {r : ℕ} {w : Row} {g : Got} {t : Tree} →
-      Formed s → r < length s → rowAt s r ≡ w → FieldsOk s (length s) w → ValueReads s v u → ReadsRow s w t → OnRow v k c s r w g → Replaced s g (move u k c t)
+      Formed s → r < length s → rowAt s r ≡ w → FieldsOk s (length s) w → ValueReads s v u → ReadsRow s w t → OnRow v k c s r w g →
+      Replaced s g (move u k c t)
   row-moves {u = u} {k} {c} f l q o x reads-var (stays h e) = to e (stays-case k c f u l q h)
   row-moves {k = k} {c} f l q o x reads-var (value {i = i} h z e) = to e (value-case k c f i x z h)
   row-moves {k = k} {c} f l q o x reads-var (moves {i = i} h e) = to e (moves-case k c f i x h)

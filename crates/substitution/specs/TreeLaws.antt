@@ -76,7 +76,8 @@ move-shift v k c s d (const e n) h g = refl
 move-shift v k c s d (app f a) h g = ap₂ app (move-shift v k c s d f h g) (move-shift v k c s d a h g)
 move-shift v k c s d (lam t b) h g = ap₂ lam (move-shift v k c s d t h g) (move-shift v k (suc c) s (suc d) b (omega arith) (omega arith))
 move-shift v k c s d (pi t b) h g = ap₂ pi (move-shift v k c s d t h g) (move-shift v k (suc c) s (suc d) b (omega arith) (omega arith))
-move-shift v k c s d (let′ t w b) h g = let-eq (move-shift v k c s d t h g) (move-shift v k c s d w h g) (move-shift v k (suc c) s (suc d) b (omega arith) (omega arith))
+move-shift v k c s d (let′ t w b) h g =
+    let-eq (move-shift v k c s d t h g) (move-shift v k c s d w h g) (move-shift v k (suc c) s (suc d) b (omega arith) (omega arith))
 move-shift v k c s d (proj e i x) h g = ap (proj e i) (move-shift v k c s d x h g)
 move-shift v k c s d (num n) h g = refl
 
@@ -87,16 +88,19 @@ shift-shift a b d t c h g = sym (move-none b c (shift a d t)) ∙ move-shift non
 -- a move further out goes through a shift: at an index that both move, at one that the shift moves, under a binder, at a tree
 under-high : (v : Option Tree) (k c s d i : ℕ) → d ≤ c → c + count v ≤ i → move v k (c + s) (var (i + s)) ≡ shift s d (move v k c (var i))
 under-high v k c s d i h g =
-    move-high v k (c + s) (i + s) (omega arith) ∙ ap var (omega arith) ∙ sym (shift-high s d (i - count v + k) (omega arith)) ∙ ap (shift s d) (sym (move-high v k c i g))
+    move-high v k (c + s) (i + s) (omega arith) ∙ ap var (omega arith) ∙ sym (shift-high s d (i - count v + k) (omega arith)) ∙
+    ap (shift s d) (sym (move-high v k c i g))
 
 under-var : (v : Option Tree) (k c s d i : ℕ) → d ≤ c → d ≤ i → Place i c → move v k (c + s) (var (i + s)) ≡ shift s d (move v k c (var i))
 under-var v k c s d i h l (below q) = move-low v k (c + s) (i + s) (omega arith) ∙ sym (shift-high s d i l) ∙ ap (shift s d) (sym (move-low v k c i q))
 under-var none k c s d i h l (here q) = under-high none k c s d i h (omega arith)
-under-var (some v) k c s d i h l (here q) = move-here v k (c + s) (i + s) (omega arith) ∙ sym (shift-shift c s 0 v d (omega arith) (omega arith)) ∙ ap (shift s d) (sym (move-here v k c i q))
+under-var (some v) k c s d i h l (here q) =
+    move-here v k (c + s) (i + s) (omega arith) ∙ sym (shift-shift c s 0 v d (omega arith) (omega arith)) ∙ ap (shift s d) (sym (move-here v k c i q))
 under-var none k c s d i h l (past q) = under-high none k c s d i h (omega arith)
 under-var (some v) k c s d i h l (past q) = under-high (some v) k c s d i h (omega arith)
 
-under-binder : (v : Option Tree) (k c s d : ℕ) (b : Tree) → move v k (suc c + s) (shift s (suc d) b) ≡ shift s (suc d) (move v k (suc c) b) →
+under-binder : (v : Option Tree) (k c s d : ℕ) (b : Tree) →
+    move v k (suc c + s) (shift s (suc d) b) ≡ shift s (suc d) (move v k (suc c) b) →
     move v k (suc (c + s)) (shift s (suc d) b) ≡ shift s (suc d) (move v k (suc c) b)
 under-binder v k c s d b e = ap (λ (n : ℕ). move v k n (shift s (suc d) b)) (omega arith) ∙ e
 
@@ -108,7 +112,9 @@ move-under v k c s d (var i) h = go (place i d)
     from q = ap (move v k (c + s)) (shift-high s d i q) ∙ under-var v k c s d i h q (place i c)
 
     go : Place i d → move v k (c + s) (shift s d (var i)) ≡ shift s d (move v k c (var i))
-    go (below q) = ap (move v k (c + s)) (shift-low s d i q) ∙ move-low v k (c + s) i (omega arith) ∙ sym (shift-low s d i q) ∙ ap (shift s d) (sym (move-low v k c i (omega arith)))
+    go (below q) =
+        ap (move v k (c + s)) (shift-low s d i q) ∙ move-low v k (c + s) i (omega arith) ∙ sym (shift-low s d i q) ∙
+        ap (shift s d) (sym (move-low v k c i (omega arith)))
     go (here q) = from (omega arith)
     go (past q) = from (omega arith)
 move-under v k c s d (sort l) h = refl
@@ -116,13 +122,17 @@ move-under v k c s d (const e n) h = refl
 move-under v k c s d (app f a) h = ap₂ app (move-under v k c s d f h) (move-under v k c s d a h)
 move-under v k c s d (lam t b) h = ap₂ lam (move-under v k c s d t h) (under-binder v k c s d b (move-under v k (suc c) s (suc d) b (omega arith)))
 move-under v k c s d (pi t b) h = ap₂ pi (move-under v k c s d t h) (under-binder v k c s d b (move-under v k (suc c) s (suc d) b (omega arith)))
-move-under v k c s d (let′ t w b) h = let-eq (move-under v k c s d t h) (move-under v k c s d w h) (under-binder v k c s d b (move-under v k (suc c) s (suc d) b (omega arith)))
+move-under v k c s d (let′ t w b) h =
+    let-eq (move-under v k c s d t h) (move-under v k c s d w h) (under-binder v k c s d b (move-under v k (suc c) s (suc d) b (omega arith)))
 move-under v k c s d (proj e i x) h = ap (proj e i) (move-under v k c s d x h)
 move-under v k c s d (num n) h = refl
 
-some-binder : (v : Tree) (k c : ℕ) (b : Tree) → move (some v) k (suc c) b ≡ subst (shift (suc c) 0 v) (suc c) (shift k (suc (suc c)) b) →
+some-binder : (v : Tree) (k c : ℕ) (b : Tree) →
+    move (some v) k (suc c) b ≡ subst (shift (suc c) 0 v) (suc c) (shift k (suc (suc c)) b) →
     move (some v) k (suc c) b ≡ subst (shift 1 0 (shift c 0 v)) (suc c) (shift k (suc (suc c)) b)
-some-binder v k c b e = e ∙ ap (λ (w : Tree). subst w (suc c) (shift k (suc (suc c)) b)) (ap (λ (n : ℕ). shift n 0 v) (omega arith) ∙ sym (shift-shift c 1 0 v 0 (omega arith) (omega arith)))
+some-binder v k c b e =
+    let up-one : shift (suc c) 0 v ≡ shift 1 0 (shift c 0 v) = ap (λ (n : ℕ). shift n 0 v) (omega arith) ∙ sym (shift-shift c 1 0 v 0 (omega arith) (omega arith)) in
+    e ∙ ap (λ (w : Tree). subst w (suc c) (shift k (suc (suc c)) b)) up-one
 
 -- with a value the move is the textbook's: what is above c goes up by k, then the value is put in at c
 pub move-some : (v : Tree) (k c : ℕ) (t : Tree) → move (some v) k c t ≡ subst (shift c 0 v) c (shift k (suc c) t)
@@ -132,7 +142,9 @@ move-some v k c (var i) = go (place i c)
     go : Place i c → move (some v) k c (var i) ≡ subst (shift c 0 v) c (shift k (suc c) (var i))
     go (below q) = move-low (some v) k c i q ∙ sym (subst-low (shift c 0 v) c i q) ∙ ap (subst (shift c 0 v) c) (sym (shift-low k (suc c) i (omega arith)))
     go (here q) = move-here v k c i q ∙ sym (subst-here (shift c 0 v) c i q) ∙ ap (subst (shift c 0 v) c) (sym (shift-low k (suc c) i (omega arith)))
-    go (past q) = move-high (some v) k c i (omega arith) ∙ ap var (omega arith) ∙ sym (subst-past (shift c 0 v) c (i + k) (omega arith)) ∙ ap (subst (shift c 0 v) c) (sym (shift-high k (suc c) i q))
+    go (past q) =
+        move-high (some v) k c i (omega arith) ∙ ap var (omega arith) ∙ sym (subst-past (shift c 0 v) c (i + k) (omega arith)) ∙
+        ap (subst (shift c 0 v) c) (sym (shift-high k (suc c) i q))
 move-some v k c (sort l) = refl
 move-some v k c (const d n) = refl
 move-some v k c (app f a) = ap₂ app (move-some v k c f) (move-some v k c a)
