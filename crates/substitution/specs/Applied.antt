@@ -1,18 +1,17 @@
 -- Spines read out: a pointer reads as its head's tree applied to its arguments' trees, and so does what joining arguments on writes.
 -- Assumes a formed store and good pointers.
-use Prim.Native.Nat.{ℕ, _+_}
-use native.Mathlib.Omega.{arith}
-use mathlib.Core.Path.{_≡_, refl, sym, ap, _∙_, subst as along}
+use Prim.Native.Nat.{ℕ}
+use mathlib.Core.Path.{_≡_, refl, subst as along}
 use mathlib.Core.List.{List, [], _∷_}
 use lib.ListN.{length}
 use Rattle.rules.specs.Kinds.{table, fields}
 use Rattle.rules.specs.Kinds as K
-use Rattle.rules.specs.Rows.{Ptr, ptr, blank, Row, node, Cell, Store, cellAt, rowAt, up, cell, Got, got, put}
-use Rattle.rules.specs.RowCheck.{ChildOk, plain-ok, term-ok}
+use Rattle.rules.specs.Rows.{Ptr, blank, node, Store, up}
+use Rattle.rules.specs.RowCheck.{plain-ok, term-ok}
 use Rattle.rules.specs.Spines.{Spine, head, through, joined}
 use Rattle.rules.specs.ReadOut.{Tree, app, shift, Reads, ReadsRow, reads-app}
-use Rattle.substitution.specs.Stores.{FieldsOk, node-fields, first-ok, second-ok, term-child, Formed, Good, fields-at, Ext, ext-same, ext-then, ext-put, ext-good, put-good, put-formed, up-child}
-use Rattle.substitution.specs.Reading.{Read, reads-exists, reads-later, at-row}
+use Rattle.substitution.specs.Stores.{FieldsOk, node-fields, first-ok, second-ok, term-child, Formed, Good, fields-at, Ext, ext-same, ext-then, ext-good, up-child}
+use Rattle.substitution.specs.Reading.{reads-exists, reads-later, at-row}
 use Rattle.substitution.specs.Bounds.{reads-up}
 use Rattle.substitution.specs.Replacing.{Replaced, put-reads}
 

@@ -1,20 +1,20 @@
 -- Replacement on a formed store, with a good pointer and a good value, has exactly one result for every cutoff and move.
 -- That there is one is shown by the recorded height, which falls from a row to its children; that there is only one needs nothing.
-use Prim.Native.Nat.{ℕ, zero, suc, _+_, _-_, _≤_, _<_, max}
+use Prim.Native.Nat.{ℕ, zero, suc, _+_, _-_, _≤_, _<_}
 use native.Mathlib.Nat.{le-refl}
 use native.Mathlib.Decide.{decLe}
 use native.Mathlib.Omega.{arith}
 use mathlib.Core.Path.{_≡_, refl, sym, ap, _∙_, subst}
 use mathlib.Core.Option.{Option, none, some}
 use lib.ListN.{length}
-use Rattle.rules.specs.Kinds.{Kind, Tag, plain, term, body, fields}
+use Rattle.rules.specs.Kinds.{Kind, Tag, term, body, fields}
 use Rattle.rules.specs.Rows.{Ptr, ptr, Row, var, node, Cell, Store, cellAt, rowAt, bound, up, fieldHeight, cell, Got, got, put}
 use Rattle.rules.specs.RowCheck.{FieldOk, plain-ok, term-ok, body-ok}
 use Rattle.rules.specs.Replacement.{count, Replaces, same, moved, inside, OnRow, stays, value, moves, children, OnField, word, child, under}
 use Rattle.substitution.specs.Places.{Place, below, here, past, place}
 use Rattle.substitution.specs.Stores.{FieldsOk, var-fields, node-fields, Formed, Good, good-fields, Ext, ext-same, ext-then, ext-good, ext-good-field, ext-field-height}
 use Rattle.substitution.specs.Reading.{reads-exists}
-use Rattle.substitution.specs.Replacing.{ValueReads, no-value, a-value, replace-moves}
+use Rattle.substitution.specs.Replacing.{no-value, a-value, replace-moves}
 
 -- the value, if there is one, is a good pointer
 pub data ValueGood (s : Store) : Option Ptr → Type 0 where

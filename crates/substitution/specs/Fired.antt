@@ -1,25 +1,24 @@
 -- What a firing writes, read out: its result's tree applied to the trees of the remaining arguments. Then beta, zeta and a context
 -- value as the head rules fire them, from the whole term before to the whole term after.
 -- Assumes a formed store, that the term (and the context value) is a good pointer, and the premises of the rule's constructor.
-use Prim.Native.Nat.{ℕ, suc, _+_, _≤_}
+use Prim.Native.Nat.{ℕ, suc, _+_}
 use native.Mathlib.Omega.{arith}
 use mathlib.Core.Path.{_≡_, refl, sym, ap, _∙_, subst as along}
-use mathlib.Core.List.{List, [], _∷_}
+use mathlib.Core.List.{List, _∷_}
 use mathlib.Core.Option.{some}
 use lib.ListN.{length}
-use Rattle.rules.specs.Kinds.{Kind, table, fields}
+use Rattle.rules.specs.Kinds.{table, fields}
 use Rattle.rules.specs.Kinds as K
-use Rattle.rules.specs.Rows.{Ptr, Row, node, leaf, Store, rowAt, up, Got, got, put}
+use Rattle.rules.specs.Rows.{Ptr, Row, node, leaf, Store, up, Got, got}
 use Rattle.rules.specs.Rows as R
 use Rattle.rules.specs.RowCheck.{plain-ok}
 use Rattle.rules.specs.Declarations.{Env, valueOf}
-use Rattle.rules.specs.Spines.{Spine, joined}
 use Rattle.rules.specs.Firings.{Tally, Result, opened, itself, a-number, a-constant, Gives, by-replacement, no-row, number-row, constant-row, Due, Pays}
 use Rattle.rules.specs.HeadRules.{Head}
 use Rattle.rules.specs.ReadOut.{Tree, var, const, app, lam, let′, num, shift, subst, Reads, ReadsRow, reads-var, reads-const, reads-num}
 use Rattle.substitution.specs.Trees.{shift-high}
 use Rattle.substitution.specs.Stores.{FieldsOk, node-fields, Formed, Good, fields-at, Ext, ext-same, ext-then, up-child}
-use Rattle.substitution.specs.Reading.{Read, reads-exists, at-row}
+use Rattle.substitution.specs.Reading.{reads-exists, at-row}
 use Rattle.substitution.specs.Replacing.{Replaced, to, put-reads}
 use Rattle.substitution.specs.Heads.{BodyReads, body-given, BinderReads, lam-reads, LetReads, let-reads, value-reads}
 use Rattle.substitution.specs.Applied.{apply, ReadAll, none-left, and-then, all-later, AllGood, all-good, SpineReads, spine-reads, joined-reads}

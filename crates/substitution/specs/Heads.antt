@@ -1,12 +1,12 @@
 -- The head rules' use of replacement, in textbook words: a lambda's argument, a let's value, a context's value; and a lambda's or
 -- a pi's body opened for inference. Assumes a formed store and good pointers, and of a pointer what its row is.
-use Prim.Native.Nat.{ℕ, suc, _+_}
-use mathlib.Core.Path.{_≡_, refl, ap, _∙_, subst as along}
+use Prim.Native.Nat.{ℕ, suc}
+use mathlib.Core.Path.{_≡_, refl, subst as along}
 use mathlib.Core.Option.{none, some}
 use lib.ListN.{length}
 use Rattle.rules.specs.Kinds.{table, fields}
 use Rattle.rules.specs.Kinds as K
-use Rattle.rules.specs.Rows.{Ptr, Row, node, Store, rowAt, up, Got}
+use Rattle.rules.specs.Rows.{Ptr, node, Store, rowAt, up, Got}
 use Rattle.rules.specs.RowCheck.{FieldOk}
 use Rattle.rules.specs.Replacement.{Replaces}
 use Rattle.rules.specs.ReadOut.{Tree, lam, pi, let′, shift, subst, Reads, ReadsRow, reads-lam, reads-pi, reads-let}

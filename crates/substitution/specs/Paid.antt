@@ -1,24 +1,23 @@
 -- What a firing that is paid for keeps: every row passes, and the term is a good pointer into the grown store.
 -- Plain words come from rows that stand or from the rule, so they stay in range with nothing known of pointers; sizes are what paying
 -- asks for; the rest is `Formed`. Assumes that every row passes and that the rule's result and arguments are good.
-use Prim.Native.Nat.{ℕ, suc, _≤_, _<_}
+use Prim.Native.Nat.{ℕ, _≤_, _<_}
 use native.Mathlib.Omega.{arith}
-use mathlib.Core.Path.{_≡_, refl, ap, subst}
+use mathlib.Core.Path.{_≡_, refl, subst}
 use mathlib.Core.List.{List, [], _∷_}
-use mathlib.Core.Option.{Option, none, some}
+use mathlib.Core.Option.{Option}
 use Rattle.rules.specs.Maxima.{most-number}
 use Rattle.rules.specs.Kinds.{Kind, app, Tag}
-use Rattle.rules.specs.Rows.{Ptr, blank, Row, var, node, Store, rowAt, Got, got, put}
+use Rattle.rules.specs.Rows.{Ptr, blank, Row, node, Store, Got, put}
 use Rattle.rules.specs.RowCheck.{app-in, const-in, num-in, AllPass}
 use Rattle.rules.specs.Replacement.{Replaces, same, moved, inside, OnRow, stays, value, moves, children, OnField, word, child, under}
 use Rattle.rules.specs.Spines.{joined}
 use Rattle.rules.specs.Firings.{Tally, Result, opened, itself, a-number, a-constant, Gives, by-replacement, no-row, number-row, constant-row, Due, NumberFits, number-fits, Written, Pays}
 use Rattle.rules.specs.ReadOut.{Tree}
 use Rattle.rules.specs.ReadOut as T
-use Rattle.substitution.specs.Stores.{Formed, Good, Ext, ext-same, ext-then, ext-good}
-use Rattle.substitution.specs.Passing.{Worded, var-worded, node-worded, AllWorded, AllSized, pass-formed, pass-worded, pass-sized, all-pass, put-worded, written-sized}
+use Rattle.substitution.specs.Stores.{Formed, Good, Ext}
+use Rattle.substitution.specs.Passing.{Worded, var-worded, node-worded, AllWorded, pass-formed, pass-worded, pass-sized, all-pass, put-worded, written-sized}
 use Rattle.substitution.specs.Reading.{reads-exists}
-use Rattle.substitution.specs.Replacing.{Replaced}
 use Rattle.substitution.specs.Existence.{ValueGood, Kept, replace-keeps}
 use Rattle.substitution.specs.Applied.{AllGood, all-read}
 use Rattle.substitution.specs.Fired.{ResultReads, opened-reads, itself-reads, number-reads, constant-reads, due-reads}

@@ -1,17 +1,17 @@
 -- The row check in three parts that grow differently: the store is formed, plain words are in range, sizes fit.
 -- Shows that the row check gives the three and they give it, and what each asks of a row put at the end. Assumes nothing.
-use Prim.Native.Nat.{ℕ, zero, suc, _+_, _-_, _≤_, _<_}
+use Prim.Native.Nat.{ℕ, zero, suc, _-_, _≤_, _<_}
 use native.Mathlib.Omega.{arith}
-use mathlib.Core.Path.{_≡_, refl, sym, ap, _∙_, subst}
-use mathlib.Core.List.{List, [], _∷_, _++_}
+use mathlib.Core.Path.{sym, ap, _∙_, subst}
+use mathlib.Core.List.{List}
 use lib.ListN.{length, getD, length-append}
 use Rattle.rules.specs.Maxima.{most-bound}
-use Rattle.rules.specs.Kinds.{Kind, sort}
-use Rattle.rules.specs.Rows.{Ptr, Row, var, node, leaf, Cell, Store, cellAt, rowAt, cell, put}
-use Rattle.rules.specs.RowCheck.{InRange, sort-in, RowOk, var-ok, node-ok, Fits, Passes, AllPass}
+use Rattle.rules.specs.Kinds.{Kind}
+use Rattle.rules.specs.Rows.{Ptr, Row, var, node, Cell, Store, cellAt, rowAt, cell, put}
+use Rattle.rules.specs.RowCheck.{InRange, sort-in, RowOk, var-ok, node-ok, Fits, AllPass}
 use Rattle.rules.specs.Firings.{AllFit, none-left, and-then, Written}
 use Rattle.substitution.specs.Places.{Place, below, here, past, place}
-use Rattle.substitution.specs.Stores.{FieldsOk, var-fields, node-fields, first-ok, second-ok, third-ok, Formed, Ext, ext-put, ext-cell, ext-written, ext-row, ext-new, no-cell, past-end, end-cell, end-row, by-end, put-length, put-formed}
+use Rattle.substitution.specs.Stores.{FieldsOk, var-fields, node-fields, first-ok, second-ok, third-ok, Formed, ext-put, ext-cell, ext-written, ext-row, ext-new, no-cell, past-end, end-cell, end-row, by-end, put-length, put-formed}
 
 -- a row's plain words are in range; a variable's index has its range from the row's bound
 pub data Worded (D : ℕ) : Row → Type 0 where

@@ -8,8 +8,7 @@ use lib.ListN.{length}
 use Rattle.rules.specs.Kinds.{Kind, Tag, plain, term, body, table, fields}
 use Rattle.rules.specs.Kinds as K
 use Rattle.rules.specs.Rows.{Ptr, ptr, Row, node, Store, rowAt}
-use Rattle.rules.specs.Rows as R
-use Rattle.rules.specs.RowCheck.{ChildOk, FieldOk, plain-ok, term-ok, body-ok}
+use Rattle.rules.specs.RowCheck.{FieldOk, plain-ok, term-ok, body-ok}
 use Rattle.rules.specs.ReadOut.{Tree, var, sort, const, app, lam, pi, let′, proj, num, shift, Reads, shifted, ReadsRow, reads-var, reads-sort, reads-const, reads-app, reads-lam, reads-pi, reads-let, reads-proj, reads-num}
 use Rattle.substitution.specs.Trees.{build, let-eq}
 use Rattle.substitution.specs.TreeLaws.{shift-zero}
@@ -37,21 +36,20 @@ pub record ReadsFields (s : Store) (κ : Kind) (x y z : Ptr) (t : Tree) : Type 0
 abbrev any : Tree
 any = sort 0
 
+fields-of : {s : Store} {x y z : Ptr} (κ : Kind) (t u w : Tree) →
+    ReadsField s (fields κ .first) x t → ReadsField s (fields κ .second) y u → ReadsField s (fields κ .third) z w → ReadsFields s κ x y z (build κ t u w)
+fields-of κ t u w a b c = record { first = t; second = u; third = w; reads-first = a; reads-second = b; reads-third = c; built = refl }
+
 pub row-fields : {s : Store} {κ : Kind} {x y z : Ptr} {t : Tree} → ReadsRow s (node κ x y z) t → ReadsFields s κ x y z t
 unfolding build fields table
-row-fields reads-sort = record { first = any; second = any; third = any; reads-first = no-term; reads-second = no-term; reads-third = no-term; built = refl }
-row-fields reads-const = record { first = any; second = any; third = any; reads-first = no-term; reads-second = no-term; reads-third = no-term; built = refl }
-row-fields (reads-app {t = t} {u = u} a b) =
-    record { first = t; second = u; third = any; reads-first = as-term a; reads-second = as-term b; reads-third = no-term; built = refl }
-row-fields (reads-lam {t = t} {u = u} a b) =
-    record { first = t; second = u; third = any; reads-first = as-term a; reads-second = as-body b; reads-third = no-term; built = refl }
-row-fields (reads-pi {t = t} {u = u} a b) =
-    record { first = t; second = u; third = any; reads-first = as-term a; reads-second = as-body b; reads-third = no-term; built = refl }
-row-fields (reads-let {t = t} {u = u} {w = w} a b c) =
-    record { first = t; second = u; third = w; reads-first = as-term a; reads-second = as-term b; reads-third = as-body c; built = refl }
-row-fields (reads-proj {t = t} a) =
-    record { first = t; second = any; third = any; reads-first = as-term a; reads-second = no-term; reads-third = no-term; built = refl }
-row-fields reads-num = record { first = any; second = any; third = any; reads-first = no-term; reads-second = no-term; reads-third = no-term; built = refl }
+row-fields (reads-sort {l = l}) = fields-of (K.sort l) any any any no-term no-term no-term
+row-fields (reads-const {d = d} {n = n}) = fields-of (K.const d n) any any any no-term no-term no-term
+row-fields (reads-app {t = t} {u = u} a b) = fields-of K.app t u any (as-term a) (as-term b) no-term
+row-fields (reads-lam {t = t} {u = u} a b) = fields-of K.lam t u any (as-term a) (as-body b) no-term
+row-fields (reads-pi {t = t} {u = u} a b) = fields-of K.pi t u any (as-term a) (as-body b) no-term
+row-fields (reads-let {t = t} {u = u} {w = w} a b c) = fields-of K.let′ t u w (as-term a) (as-term b) (as-body c)
+row-fields (reads-proj {d = d} {i = i} {t = t} a) = fields-of (K.proj d i) t any any (as-term a) no-term no-term
+row-fields (reads-num {n = n}) = fields-of (K.num n) any any any no-term no-term no-term
 
 pub of-term : {s : Store} {p : Ptr} {t : Tree} → ReadsField s term p t → Reads s p t
 of-term (as-term r) = r

@@ -6,17 +6,17 @@ use native.Mathlib.Omega.{arith}
 use mathlib.Core.Path.{_≡_, refl, sym, ap, _∙_, subst as along}
 use mathlib.Core.Option.{Option, none, some}
 use lib.ListN.{length}
-use Rattle.rules.specs.Kinds.{Kind, Tag, plain, term, body, fields}
-use Rattle.rules.specs.Rows.{Ptr, ptr, Row, node, Cell, Store, cellAt, rowAt, boundOn, bound, up, cell, Got, got, put}
+use Rattle.rules.specs.Kinds.{Kind, Tag, plain, fields}
+use Rattle.rules.specs.Rows.{Ptr, ptr, Row, node, Store, rowAt, boundOn, bound, up, cell, Got, got, put}
 use Rattle.rules.specs.Rows as R
-use Rattle.rules.specs.RowCheck.{FieldOk, plain-ok, term-ok, body-ok}
+use Rattle.rules.specs.RowCheck.{FieldOk, term-ok, body-ok}
 use Rattle.rules.specs.Replacement.{count, Replaces, same, moved, inside, OnRow, stays, value, moves, children, OnField, word, child, under}
 use Rattle.rules.specs.ReadOut.{Tree, var, shift, subst, Reads, shifted, ReadsRow, reads-var}
 use Rattle.substitution.specs.Trees.{move, build, cutoff, move-build, move-low, move-here, move-high}
 use Rattle.substitution.specs.Trees as T
 use Rattle.substitution.specs.TreeLaws.{move-closed, move-shift, move-under, move-none, move-some}
 use Rattle.substitution.specs.Stores.{FieldsOk, var-fields, node-fields, first-ok, second-ok, third-ok, term-child, body-child, Formed, Good, good-fields, Ext, ext-same, ext-then, ext-put, ext-good, ext-good-field, end-row, put-good, put-formed, up-child}
-use Rattle.substitution.specs.Reading.{ReadsField, no-term, as-term, as-body, ReadsFields, row-fields, fields-row, of-term, of-body, before-shift, reads-unshifted, reads-later, row-later, field-later}
+use Rattle.substitution.specs.Reading.{ReadsField, no-term, as-term, as-body, row-fields, fields-row, of-term, of-body, before-shift, reads-unshifted, reads-later, row-later, field-later}
 use Rattle.substitution.specs.Bounds.{bound-is-loose, reads-up}
 
 -- what replacement leaves: rows put at the end of the store, which stays formed, and a good pointer that reads as t

@@ -8,8 +8,8 @@ use mathlib.Core.Path.{_≡_, refl, sym, ap, _∙_, subst}
 use mathlib.Core.List.{List, [], _∷_, _++_, append-assoc, append-nil}
 use lib.ListN.{length, getD, length-append, List·getD-append, List·getD-eq-default}
 use lib.Seq.{getD-at, getD-append-add}
-use Rattle.rules.specs.Kinds.{Kind, sort, Tag, plain, term, body, fields}
-use Rattle.rules.specs.Rows.{Ptr, ptr, blank, Row, var, node, leaf, Cell, Store, cellAt, rowAt, boundOn, bound, upOn, up, fieldBound, fieldHeight, cell, Got, got, put}
+use Rattle.rules.specs.Kinds.{Kind, sort, Tag, term, body, fields}
+use Rattle.rules.specs.Rows.{Ptr, Row, var, node, leaf, Cell, Store, cellAt, rowAt, boundOn, bound, upOn, up, fieldBound, fieldHeight, cell, put}
 use Rattle.rules.specs.RowCheck.{ChildOk, FieldOk, plain-ok, term-ok, body-ok, InScope}
 use Rattle.rules.specs.Firings.{Written}
 use Rattle.substitution.specs.Places.{Place, below, here, past, place}

@@ -1,6 +1,6 @@
 -- Laws of shifting and moving trees, with those two in textbook words: without a value the move is a shift, with one it is a
 -- shift and a substitution. Each law is an induction on the tree whose one interesting case is the variable. Assumes nothing.
-use Prim.Native.Nat.{ℕ, zero, suc, _+_, _-_, _≤_, _<_, pred, max}
+use Prim.Native.Nat.{ℕ, suc, _+_, _-_, _≤_}
 use native.Mathlib.Omega.{arith}
 use mathlib.Core.Path.{_≡_, refl, sym, ap, ap₂, _∙_}
 use mathlib.Core.Option.{Option, none, some}

@@ -2,10 +2,10 @@
 -- substitution and the move do at a variable. Assumes nothing.
 use Prim.Native.Nat.{ℕ, suc, _+_, _-_, _≤_, _<_, pred, max}
 use native.Mathlib.Omega.{arith}
-use mathlib.Core.Path.{_≡_, refl, ap, ap₂, _∙_}
+use mathlib.Core.Path.{_≡_, refl, ap, ap₂}
 use mathlib.Core.Option.{Option, none, some}
-use mathlib.Core.Bool.{Bool, true, false}
-use lib.Dec.{ltb, eqb}
+use mathlib.Core.Bool.{Bool}
+use lib.Dec.{eqb}
 use Rattle.rules.specs.Kinds.{Kind, Tag, plain, term, body, table, fields}
 use Rattle.rules.specs.Kinds as K
 use Rattle.rules.specs.ReadOut.{Tree, var, sort, const, app, lam, pi, let′, proj, num, shiftIndex, shift, substIndex, subst}
