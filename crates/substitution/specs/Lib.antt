@@ -1,0 +1,13 @@
+pub mod Places
+pub mod Trees
+pub mod TreeLaws
+pub mod Stores
+pub mod Passing
+pub mod Reading
+pub mod Bounds
+pub mod Replacing
+pub mod Existence
+pub mod Applied
+pub mod Heads
+pub mod Fired
+pub mod Paid
