@@ -1,3 +1,5 @@
+-- What is believed stands in the crate rules. Here it is shown that replacement down the rows is textbook substitution: read
+-- replace-none-reads and replace-some-reads at the end of Replacing.antt first, then beta-reads and zeta-reads in Heads.antt.
 pub mod Places
 pub mod Trees
 pub mod TreeLaws
@@ -10,4 +12,6 @@ pub mod Existence
 pub mod Applied
 pub mod Heads
 pub mod Fired
+pub mod Dues
 pub mod Paid
+pub mod Scope

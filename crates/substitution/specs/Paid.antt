@@ -1,9 +1,9 @@
 -- What a firing that is paid for keeps: every row passes, and the term is a good pointer into the grown store.
 -- Plain words come from rows that stand or from the rule, so they stay in range with nothing known of pointers; sizes are what paying
 -- asks for; the rest is `Formed`. Assumes that every row passes and that the rule's result and arguments are good.
-use Prim.Native.Nat.{ℕ, _≤_, _<_}
+use Prim.Native.Nat.{ℕ, _≤_}
 use native.Mathlib.Omega.{arith}
-use mathlib.Core.Path.{_≡_, refl, subst}
+use mathlib.Core.Path.{_≡_, subst}
 use mathlib.Core.List.{List, [], _∷_}
 use mathlib.Core.Option.{Option}
 use Rattle.rules.specs.Maxima.{most-number}
@@ -12,15 +12,12 @@ use Rattle.rules.specs.Rows.{Ptr, blank, Row, node, Store, Got, put}
 use Rattle.rules.specs.RowCheck.{app-in, const-in, num-in, AllPass}
 use Rattle.rules.specs.Replacement.{Replaces, same, moved, inside, OnRow, stays, value, moves, children, OnField, word, child, under}
 use Rattle.rules.specs.Spines.{joined}
-use Rattle.rules.specs.Firings.{Tally, Result, opened, itself, a-number, a-constant, Gives, by-replacement, no-row, number-row, constant-row, Due, NumberFits, number-fits, Written, Pays}
-use Rattle.rules.specs.ReadOut.{Tree}
-use Rattle.rules.specs.ReadOut as T
-use Rattle.substitution.specs.Stores.{Formed, Good, Ext}
+use Rattle.rules.specs.Firings.{Tally, Result, a-number, Gives, by-replacement, no-row, number-row, constant-row, Due, NumberFits, number-fits, Written, Pays}
+use Rattle.substitution.specs.Stores.{Good, Ext}
 use Rattle.substitution.specs.Passing.{Worded, var-worded, node-worded, AllWorded, pass-formed, pass-worded, pass-sized, all-pass, put-worded, written-sized}
-use Rattle.substitution.specs.Reading.{reads-exists}
-use Rattle.substitution.specs.Existence.{ValueGood, Kept, replace-keeps}
-use Rattle.substitution.specs.Applied.{AllGood, all-read}
-use Rattle.substitution.specs.Fired.{ResultReads, opened-reads, itself-reads, number-reads, constant-reads, due-reads}
+use Rattle.substitution.specs.Existence.{ValueGood, replace-keeps}
+use Rattle.substitution.specs.Applied.{AllGood}
+use Rattle.substitution.specs.Dues.{ResultGood, opened-good, itself-good, number-good, constant-good, due-keeps}
 
 -- PLAIN WORDS
 
@@ -62,12 +59,6 @@ replace-pass a o x q w = all-pass (replace-keeps (pass-formed a) o x q .formed) 
 
 -- A FIRING
 
-pub data ResultGood (D : ℕ) (s : Store) : Result → Type 0 where
-  opened-good : {b v : Ptr} {k : ℕ} → Good s b → Good s v → ResultGood D s (opened b v k)
-  itself-good : {p : Ptr} → Good s p → ResultGood D s (itself p)
-  number-good : {n : ℕ} → ResultGood D s (a-number n)
-  constant-good : {d : ℕ} → d < D → ResultGood D s (a-constant d)
-
 number-in : {n : ℕ} → NumberFits (a-number n) → n ≤ most-number
 number-in (number-fits h) = h
 
@@ -80,28 +71,6 @@ gives-worded a (constant-good h) n (constant-row e) = at e (put-worded a (node-w
 due-worded : {D : ℕ} {s : Store} {r : Result} {xs : List Ptr} {g : Got} →
     AllWorded D s → ResultGood D s r → NumberFits r → Due s r xs g → AllWorded D (g .store)
 due-worded {xs = xs} a o n d = at (d .applied) (joined-worded (d .result .at) xs (gives-worded a o n (d .gives)))
-
--- a good result reads as a tree, so what is due is formed
-record ReadResult (s : Store) (r : Result) : Type 0 where
-  tree : Tree
-  reads : ResultReads s r tree
-
-result-read : {D : ℕ} {s : Store} {r : Result} → Formed s → ResultGood D s r → ReadResult s r
-result-read f (opened-good {k = k} o y) =
-    let b = reads-exists f o in
-    let v = reads-exists f y in
-    record {
-      tree = T.subst (v .tree) 0 (T.shift k 1 (b .tree));
-      reads = opened-reads (record { base = b .tree; good = o; reads = b .reads; is = refl }) y (v .reads) refl;
-    }
-result-read f (itself-good o) = let r = reads-exists f o in record { tree = r .tree; reads = itself-reads o (r .reads) }
-result-read f (number-good {n = n}) = record { tree = T.num n; reads = number-reads }
-result-read f (constant-good {d = d} h) = record { tree = T.const d 0; reads = constant-reads }
-
-pub due-keeps : {D : ℕ} {s : Store} {r : Result} {xs : List Ptr} {g : Got} → Formed s → ResultGood D s r → AllGood s xs → Due s r xs g → Kept s g
-due-keeps f o q d =
-    let x = due-reads f (result-read f o .reads) (all-read f q .all) d in
-    record { more = x .more; formed = x .formed; good = x .good }
 
 -- after a firing that is paid for
 pub record Paid (D : ℕ) (s s′ : Store) (t′ : Ptr) : Type 0 where
