@@ -1,0 +1,1 @@
+// Declarations, recursor rules, roles and the context, read from the lent words.
