@@ -15,9 +15,9 @@ use Rattle.substitution.specs.TreeLaws.{shift-closed, shift-shift}
 use Rattle.substitution.specs.Stores.{FieldsOk, first-ok, second-ok, third-ok, term-child, body-child, Formed, Good, good-fields}
 
 -- m is the bound n after indices from d on went up by k
-record Lifted (k d n m : ℕ) : Type 0 where
-  low : n ≤ d → m ≡ n
-  high : d < n → m ≡ n + k
+pub record Lifted (k d n m : ℕ) : Type 0 where
+  pub low : n ≤ d → m ≡ n
+  pub high : d < n → m ≡ n + k
 
 lifted-zero : (k d : ℕ) → Lifted k d 0 0
 lifted-zero k d = record { low = λ h. refl; high = λ h. absurd (omega arith) }
@@ -37,7 +37,7 @@ lifted-body q = record { low = λ h. ap pred (q .low (omega arith)); high = λ h
 
 -- SHIFTED TREES
 
-loose-shift : (k d : ℕ) (t : Tree) → Lifted k d (loose t) (loose (shift k d t))
+pub loose-shift : (k d : ℕ) (t : Tree) → Lifted k d (loose t) (loose (shift k d t))
 unfolding shift loose
 loose-shift k d (var i) = record { low = λ h. ap loose (shift-low k d i h); high = λ h. ap loose (shift-high k d i (omega arith)) ∙ omega arith }
 loose-shift k d (sort l) = lifted-zero k d
