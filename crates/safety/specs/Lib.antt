@@ -1,3 +1,7 @@
 pub mod Lists
 pub mod Sane
 pub mod Scope
+pub mod Parts
+pub mod Safe
+pub mod Keeps
+pub mod NeverLost
