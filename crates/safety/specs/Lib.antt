@@ -5,3 +5,4 @@ pub mod Parts
 pub mod Safe
 pub mod Keeps
 pub mod NeverLost
+pub mod Answers
