@@ -17,7 +17,7 @@ use Rattle.rules.specs.Refusals.{Limits}
 use Rattle.course.specs.Views.{Cmp, at-most, over, cmp, FitView, fits, no-fit, fitView}
 use Rattle.course.specs.Eval.{onIndex, onField, onRow, onPtr, replaceBy, give, dueOf, emitOn, emit, charge}
 use Rattle.course.specs.Charged.{Out, wrote, refused, and-on, putOn, putIn, joinIn, indexIn, fieldIn, rowIn, ptrIn, replaceIn, giveIn, dueIn}
-use Rattle.promises.specs.Stores.{Ext, ext-refl, ext-trans, ext-one}
+use Rattle.substitution.specs.Stores.{Ext, ext-same, ext-then, ext-put}
 
 abbrev pub settleOn : Got → Option ℕ → Out
 settleOn g none = wrote g
@@ -64,8 +64,8 @@ module _ (lim : Limits) where
   on-from : {s : Store} {x : Option Got} (next : Got → Out) (g : Got) → Ext s (g .store) → (c : Option ℕ) → charge lim s (g .store) ≡ c →
       Charges (g .store) x (next g) → Charges s x (and-on (settleOn g c) next)
   on-from next g a c q nothing-said = nothing-said
-  on-from next g a none q (in-turn {g = g₁} b e) = in-turn {g = g₁} {o = next g} (ext-trans a b) (rw (charge-append a b, q) e)
-  on-from next g a (some k) q (in-turn {g = g₁} b e) = in-turn {g = g₁} {o = refused k} (ext-trans a b) (rw (charge-append a b, q))
+  on-from next g a none q (in-turn {g = g₁} b e) = in-turn {g = g₁} {o = next g} (ext-then a b) (rw (charge-append a b, q) e)
+  on-from next g a (some k) q (in-turn {g = g₁} b e) = in-turn {g = g₁} {o = refused k} (ext-then a b) (rw (charge-append a b, q))
 
   and-then-charges : {s : Store} {f : Got → Option Got} {next : Got → Out} {x : Option Got} {o : Out} → Charges s x o →
       ((g : Got) → Charges (g .store) (f g) (next g)) → Charges s (given x f) (and-on o next)
@@ -75,11 +75,11 @@ module _ (lim : Limits) where
   -- NO ROW, AND ONE ROW
   no-row-charges : (s : Store) (p : Ptr) → Charges s (some (got s p)) (wrote (got s p))
   unfolding emit
-  no-row-charges s p = in-turn {g = got s p} {o = wrote (got s p)} (ext-refl s) (rw drop-length)
+  no-row-charges s p = in-turn {g = got s p} {o = wrote (got s p)} (ext-same s) (rw drop-length)
 
   put-charges : (s : Store) (w : Row) → Charges s (some (put s w)) (putIn (lim .rows) s w)
   unfolding emit putIn
-  put-charges s w = in-turn {g = put s w} {o = putIn (lim .rows) s w} (ext-one s (cell s w)) (rw drop-append-seam (on (fitView (cell s w)) (cmp (lim .rows) (length s))))
+  put-charges s w = in-turn {g = put s w} {o = putIn (lim .rows) s w} (ext-put s (cell s w)) (rw drop-append-seam (on (fitView (cell s w)) (cmp (lim .rows) (length s))))
     where
       on : (f : FitView (cell s w)) (c : Cmp (lim .rows) (length s)) → settleOn (put s w) (emitOn lim (cell s w) s f c none) ≡ putOn (lim .rows) s w f c
       on (no-fit h) c = refl

@@ -1,5 +1,6 @@
 -- One rule after the other: what `y or-else z` comes to, and what it asks for on the way, is y's, or z's from the tally at which y was missed.
--- First for the evaluator, then for the tries, both ways. It holds for all stores.
+-- First for the evaluator, then for the tries. It holds for all stores. The other way, from y and z to the whole, is `first-fires`, `first-missed`,
+-- `first-meets` and `next-meets` of course/ToTries.
 use Prim.Native.Nat.{ℕ, suc}
 use mathlib.Core.Path.{_≡_, refl}
 use mathlib.Core.List.{List}
@@ -52,18 +53,6 @@ module _ (lim : Limits) (sd : Side) where
 -- THE TRIES
 module _ (e : Env) where
   -- what it comes to
-  pub first-fires : {d : ℕ} {m m′ : Tally} {y : Try} {r : Result} {xs : List Ptr} (z : Try) → Comes e d m y m′ (firing r xs) → Comes e d m (y or-else z) m′ (firing r xs)
-  unfolding _or-else_
-  first-fires z fires-now = fires-now
-  first-fires z (wrote w c) = wrote w (first-fires z c)
-  first-fires z (side r s c) = side r s (first-fires z c)
-
-  pub first-missed : {d : ℕ} {m m₁ m′ : Tally} {y z : Try} {o : End} → Comes e d m y m₁ missed → Comes e d m₁ z m′ o → Comes e d m (y or-else z) m′ o
-  unfolding _or-else_
-  first-missed misses k = k
-  first-missed (wrote w c) k = wrote w (first-missed c k)
-  first-missed (side r s c) k = side r s (first-missed c k)
-
   pub data ElseComes (d : ℕ) (m : Tally) (y z : Try) (m′ : Tally) : End → Type 0 where
     of-first : {r : Result} {xs : List Ptr} → Comes e d m y m′ (firing r xs) → ElseComes d m y z m′ (firing r xs)
     of-second : {m₁ : Tally} {o : End} → Comes e d m y m₁ missed → Comes e d m₁ z m′ o → ElseComes d m y z m′ o
@@ -84,20 +73,6 @@ module _ (e : Env) where
       on (of-second c k) = of-second (side r s c) k
 
   -- what it asks for on the way
-  pub first-meets : {d : ℕ} {m m₁ : Tally} {y : Try} {a : Demand} (z : Try) → TryMeets e d m y a m₁ → TryMeets e d m (y or-else z) a m₁
-  unfolding _or-else_
-  first-meets z (writing x q) = writing x q
-  first-meets z (after-writing w x) = after-writing w (first-meets z x)
-  first-meets z too-deep = too-deep
-  first-meets z (within x) = within x
-  first-meets z (after-side r s x) = after-side r s (first-meets z x)
-
-  pub second-meets : {d : ℕ} {m m₁ m₂ : Tally} {y z : Try} {a : Demand} → Comes e d m y m₁ missed → TryMeets e d m₁ z a m₂ → TryMeets e d m (y or-else z) a m₂
-  unfolding _or-else_
-  second-meets misses k = k
-  second-meets (wrote w c) k = after-writing w (second-meets c k)
-  second-meets (side r s c) k = after-side r s (second-meets c k)
-
   pub data ElseMeets (d : ℕ) (m : Tally) (y z : Try) (a : Demand) (m₁ : Tally) : Type 0 where
     in-first : TryMeets e d m y a m₁ → ElseMeets d m y z a m₁
     in-second : {m₂ : Tally} → Comes e d m y m₂ missed → TryMeets e d m₂ z a m₁ → ElseMeets d m y z a m₁

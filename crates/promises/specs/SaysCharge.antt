@@ -11,7 +11,8 @@ use Rattle.rules.specs.Firings.{tally, AllFit, none-left, and-then, Written}
 use Rattle.rules.specs.Refusals.{row, RowDue, Limits, Fails, no-free-row, no-size}
 use Rattle.course.specs.Views.{Cmp, at-most, over, cmp, FitView, fits, no-fit, fitView}
 use Rattle.course.specs.Eval.{emitOn, emit, charge}
-use Rattle.promises.specs.Stores.{Ext, ext-new}
+use Rattle.substitution.specs.Stores.{Ext}
+use Rattle.promises.specs.Stores.{ext-tail}
 
 -- row x fails when the store is `now`, whatever the steps
 abbrev pub RowFails : Limits → Store → Cell → ℕ → Type 0
@@ -53,4 +54,4 @@ module _ (lim : Limits) where
   of-store {s} x (e-no before after z e a h f) = c-no (record { before = before; after = after; split = ap (s ++_) e ∙ x .after; fit = a; stand = refl }) h f
 
   pub charge-says : (s s′ : Store) → Ext s s′ → length s ≤ lim .rows → ChargeSays s s′ (charge lim s s′)
-  charge-says s s′ x l = of-store x (subst (λ (new : List Cell). EmitSays s new (charge lim s s′)) (ext-new x) (emit-says s (drop (length s) s′) l))
+  charge-says s s′ x l = of-store x (subst (λ (new : List Cell). EmitSays s new (charge lim s s′)) (ext-tail x) (emit-says s (drop (length s) s′) l))

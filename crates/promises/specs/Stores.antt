@@ -2,10 +2,10 @@
 use Prim.Native.Nat.{ℕ, _+_, _≤_}
 use native.Mathlib.Omega.{arith}
 use native.Mathlib.Nat.{le-refl, le-trans}
-use mathlib.Core.Path.{_≡_, refl, sym, ap, _∙_, subst}
-use mathlib.Core.List.{List, [], _∷_, _++_, append-nil, append-assoc}
+use mathlib.Core.Path.{_≡_, sym, ap, _∙_, subst}
+use mathlib.Core.List.{List, [], _∷_}
 use mathlib.Core.Option.{Option}
-use lib.ListN.{length, drop, length-append}
+use lib.ListN.{length, drop}
 use lib.Seq.{drop-append-seam}
 use Rattle.rules.specs.Kinds.{Tag}
 use Rattle.rules.specs.Rows.{Ptr, Row, Cell, Store, cell, grow, Got}
@@ -14,68 +14,53 @@ use Rattle.rules.specs.Replacement.{Replaces, same, moved, inside, OnRow, stays
 use Rattle.rules.specs.Spines.{joined}
 use Rattle.rules.specs.Firings.{Tally, tally, Result, Gives, by-replacement, no-row, number-row, constant-row, Due, Pays}
 use Rattle.rules.specs.Refusals.{Demand, RowDue, Asks, its-step, its-number, its-row, Limits, Within}
+use Rattle.substitution.specs.Stores.{Ext, ext-same, ext-then, ext-put, ext-length}
 use Rattle.course.specs.Tries.{Try, End, Runs, final, then, Comes, misses, fires-now, wrote, side, RunMeets, trying, paying, later, TryMeets, writing, after-writing, too-deep, within, after-side}
 
 -- STORES
 
-pub record Ext (s s′ : Store) : Type 0 where
-  pub new : List Cell
-  pub after : s ++ new ≡ s′
-
-pub ext-refl : (s : Store) → Ext s s
-ext-refl s = record { new = []; after = append-nil s }
-
-pub ext-trans : {s s₁ s₂ : Store} → Ext s s₁ → Ext s₁ s₂ → Ext s s₂
-ext-trans {s} a b = record { new = a .new ++ b .new; after = sym (append-assoc s (a .new) (b .new)) ∙ ap (λ (x : Store). x ++ b .new) (a .after) ∙ b .after }
-
-pub ext-one : (s : Store) (x : Cell) → Ext s (s ++ (x ∷ []))
-ext-one s x = record { new = x ∷ []; after = refl }
-
 -- the new rows are those past the old end
-pub ext-new : {s s′ : Store} (x : Ext s s′) → drop (length s) s′ ≡ x .new
-ext-new {s} x = ap (drop (length s)) (sym (x .after)) ∙ drop-append-seam s (x .new)
-
-pub ext-longer : {s s′ : Store} → Ext s s′ → length s ≤ length s′
-ext-longer {s} x = let q = ap length (x .after) in let l = length-append s (x .new) in omega arith
+pub ext-tail : {s s′ : Store} (x : Ext s s′) → drop (length s) s′ ≡ x .new
+ext-tail {s} x = ap (drop (length s)) (sym (x .after)) ∙ drop-append-seam s (x .new)
 
 pub ext-grow : (s : Store) (ws : List Row) → Ext s (grow s ws)
 unfolding grow
-ext-grow s [] = ext-refl s
-ext-grow s (w ∷ ws) = ext-trans (ext-one s (cell s w)) (ext-grow _ ws)
+ext-grow s [] = ext-same s
+ext-grow s (w ∷ ws) = ext-then (ext-put s (cell s w)) (ext-grow _ ws)
 
 pub ext-joined : (s : Store) (p : Ptr) (xs : List Ptr) → Ext s (joined s p xs .store)
 unfolding joined
-ext-joined s p [] = ext-refl s
-ext-joined s p (a ∷ xs) = ext-trans (ext-one s _) (ext-joined _ _ xs)
+ext-joined s p [] = ext-same s
+ext-joined s p (a ∷ xs) = ext-then (ext-put s _) (ext-joined _ _ xs)
 
 by-got : {s : Store} {g g′ : Got} → g ≡ g′ → Ext s (g .store) → Ext s (g′ .store)
 by-got {s} e x = subst (λ (g : Got). Ext s (g .store)) e x
 
 mutual
   pub ext-replaces : {v : Option Ptr} {k c : ℕ} {s : Store} {p : Ptr} {g : Got} → Replaces v k c s p g → Ext s (g .store)
-  ext-replaces {s = s} (same h e) = by-got e (ext-refl s)
-  ext-replaces {s = s} (moved h l e) = by-got e (ext-refl s)
+  ext-replaces {s = s} (same h e) = by-got e (ext-same s)
+  ext-replaces {s = s} (moved h l e) = by-got e (ext-same s)
   ext-replaces (inside h l r e) = by-got e (ext-row r)
 
   ext-row : {v : Option Ptr} {k c : ℕ} {s : Store} {t : ℕ} {w : Row} {g : Got} → OnRow v k c s t w g → Ext s (g .store)
-  ext-row {s = s} (stays h e) = by-got e (ext-refl s)
-  ext-row {s = s} (value h q e) = by-got e (ext-refl s)
-  ext-row {s = s} (moves h e) = by-got e (ext-one s _)
-  ext-row (children {g₃ = g₃} a b c e) = by-got e (ext-trans (ext-field a) (ext-trans (ext-field b) (ext-trans (ext-field c) (ext-one (g₃ .store) _))))
+  ext-row {s = s} (stays h e) = by-got e (ext-same s)
+  ext-row {s = s} (value h q e) = by-got e (ext-same s)
+  ext-row {s = s} (moves h e) = by-got e (ext-put s _)
+  ext-row (children {g₃ = g₃} a b c e) = by-got e (ext-then (ext-field a) (ext-then (ext-field b) (ext-then (ext-field c) (ext-put (g₃ .store) _))))
 
   ext-field : {v : Option Ptr} {k : ℕ} {τ : Tag} {c : ℕ} {s : Store} {p : Ptr} {g : Got} → OnField v k τ c s p g → Ext s (g .store)
-  ext-field {s = s} (word e) = by-got e (ext-refl s)
+  ext-field {s = s} (word e) = by-got e (ext-same s)
   ext-field (child r) = ext-replaces r
   ext-field (under r) = ext-replaces r
 
 pub ext-gives : {s : Store} {r : Result} {g : Got} → Gives s r g → Ext s (g .store)
 ext-gives (by-replacement r) = ext-replaces r
-ext-gives {s} (no-row e) = by-got e (ext-refl s)
-ext-gives {s} (number-row e) = by-got e (ext-one s _)
-ext-gives {s} (constant-row e) = by-got e (ext-one s _)
+ext-gives {s} (no-row e) = by-got e (ext-same s)
+ext-gives {s} (number-row e) = by-got e (ext-put s _)
+ext-gives {s} (constant-row e) = by-got e (ext-put s _)
 
 pub ext-due : {s : Store} {r : Result} {xs : List Ptr} {g : Got} → Due s r xs g → Ext s (g .store)
-ext-due d = by-got (d .applied) (ext-trans (ext-gives (d .gives)) (ext-joined _ _ _))
+ext-due d = by-got (d .applied) (ext-then (ext-gives (d .gives)) (ext-joined _ _ _))
 
 pub ext-row-due : {s s′ : Store} {x : Cell} {now : Store} → RowDue s s′ x now → Ext s now
 ext-row-due q = record { new = q .before; after = q .stand }
@@ -87,10 +72,10 @@ pub record Later (m m′ : Tally) : Type 0 where
   pub rows : Ext (m .store) (m′ .store)
 
 pub later-refl : (m : Tally) → Later m m
-later-refl m = record { steps = le-refl (m .steps); rows = ext-refl (m .store) }
+later-refl m = record { steps = le-refl (m .steps); rows = ext-same (m .store) }
 
 pub later-trans : {a b c : Tally} → Later a b → Later b c → Later a c
-later-trans x y = record { steps = le-trans (x .steps) (y .steps); rows = ext-trans (x .rows) (y .rows) }
+later-trans x y = record { steps = le-trans (x .steps) (y .steps); rows = ext-then (x .rows) (y .rows) }
 
 pub later-writes : (m : Tally) (ws : List Row) → Later m (tally (m .steps) (grow (m .store) ws))
 later-writes m ws = record { steps = le-refl (m .steps); rows = ext-grow (m .store) ws }
@@ -100,7 +85,7 @@ later-pays {m} p = subst (Later m) (p .then-tally) (record { steps = omega arith
 
 pub later-asks : {m m₁ : Tally} {r : Result} {xs : List Ptr} {a : Demand} → Asks m r xs a m₁ → Later m m₁
 later-asks {m} its-step = later-refl m
-later-asks {m} (its-number q) = subst (Later m) q (record { steps = omega arith; rows = ext-refl (m .store) })
+later-asks {m} (its-number q) = subst (Later m) q (record { steps = omega arith; rows = ext-same (m .store) })
 later-asks {m} (its-row f d x q) = subst (Later m) q (record { steps = omega arith; rows = ext-row-due x })
 
 module _ (e : Env) where
@@ -130,4 +115,4 @@ module _ (e : Env) where
 
 -- whoever is within the limits was so before
 pub within-earlier : {lim : Limits} {m m′ : Tally} → Later m m′ → Within lim m′ → Within lim m
-within-earlier l w = record { steps = le-trans (l .steps) (w .steps); rows = le-trans (ext-longer (l .rows)) (w .rows) }
+within-earlier l w = record { steps = le-trans (l .steps) (w .steps); rows = le-trans (ext-length (l .rows)) (w .rows) }

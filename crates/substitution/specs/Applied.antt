@@ -95,7 +95,7 @@ spine-reads {s} {p} {us = us} d o r q (through {h = h} {ys = ys} e c) =
 
 -- ARGUMENTS JOINED ON
 
-app-fields : {s : Store} {p a : Ptr} → Good s p → Good s a → FieldsOk s (length s) (node K.app p a blank)
+pub app-fields : {s : Store} {p a : Ptr} → Good s p → Good s a → FieldsOk s (length s) (node K.app p a blank)
 unfolding fields table
 app-fields o q = node-fields (term-ok o) (term-ok q) (plain-ok refl)
 

@@ -21,7 +21,7 @@ pub data ValueGood (s : Store) : Option Ptr → Type 0 where
   none-good : ValueGood s none
   some-good : {v : Ptr} → Good s v → ValueGood s (some v)
 
-value-good-later : {s s′ : Store} {v : Option Ptr} → Ext s s′ → ValueGood s v → ValueGood s′ v
+pub value-good-later : {s s′ : Store} {v : Option Ptr} → Ext s s′ → ValueGood s v → ValueGood s′ v
 value-good-later e none-good = none-good
 value-good-later e (some-good o) = some-good (ext-good e o)
 
@@ -57,7 +57,7 @@ record OnFieldTo (v : Option Ptr) (k : ℕ) (τ : Tag) (c : ℕ) (s : Store) (p 
   more : Ext s (result .store)
   formed : Formed (result .store)
 
-height-positive : (s : Store) (w : Row) → 0 < cell s w .height
+pub height-positive : (s : Store) (w : Row) → 0 < cell s w .height
 unfolding cell
 height-positive s (var i) = omega arith
 height-positive s (node κ x y z) = omega arith

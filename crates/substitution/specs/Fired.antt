@@ -32,11 +32,11 @@ pub data ResultReads (s : Store) : Result → Tree → Type 0 where
   number-reads : {n : ℕ} → ResultReads s (a-number n) (num n)
   constant-reads : {d : ℕ} → ResultReads s (a-constant d) (const d 0)
 
-num-fields : (s : Store) (n : ℕ) → FieldsOk s (length s) (leaf (K.num n))
+pub num-fields : (s : Store) (n : ℕ) → FieldsOk s (length s) (leaf (K.num n))
 unfolding fields table
 num-fields s n = node-fields (plain-ok refl) (plain-ok refl) (plain-ok refl)
 
-const-fields : (s : Store) (d n : ℕ) → FieldsOk s (length s) (leaf (K.const d n))
+pub const-fields : (s : Store) (d n : ℕ) → FieldsOk s (length s) (leaf (K.const d n))
 unfolding fields table
 const-fields s d n = node-fields (plain-ok refl) (plain-ok refl) (plain-ok refl)
 
