@@ -22,7 +22,7 @@ use Rattle.course.specs.Eval.{onField, onRow, onPtr, replaceBy, spineOn, spineB
 use Rattle.substitution.specs.Stores.{FieldsOk, var-fields, node-fields, first-ok, term-child, Formed, Good, good-fields, fields-at, scope-good, Ext, ext-same, ext-then, ext-good-field, ext-field-height, up-child}
 use Rattle.substitution.specs.Passing.{pass-formed, pass-worded}
 use Rattle.substitution.specs.Existence.{ValueGood, some-good, value-good-later, replace-keeps, height-positive}
-use Rattle.substitution.specs.Paid.{ResultGood, opened-good, itself-good, number-good, constant-good}
+use Rattle.substitution.specs.Dues.{ResultGood, opened-good, itself-good, number-good, constant-good}
 use Rattle.promises.specs.Stores.{ext-grow}
 use Rattle.promises.specs.SaysRows.{All, just, replace-says}
 use Rattle.promises.specs.Lost.{RunLoses, no-head, in-trying, in-paying, in-the-rest, TryLoses, past-rows, in-side, no-side-head, past-side}

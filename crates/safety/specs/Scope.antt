@@ -20,7 +20,7 @@ use Rattle.substitution.specs.Reading.{reads-exists}
 use Rattle.substitution.specs.Passing.{Worded, pass-formed, pass-worded}
 use Rattle.substitution.specs.Applied.{apply, ReadAll, none-left, and-then, AllGood, no-more, and-good}
 use Rattle.substitution.specs.Fired.{ResultReads, opened-reads, itself-reads, number-reads, constant-reads, due-reads}
-use Rattle.substitution.specs.Paid.{ResultGood, opened-good, itself-good, number-good, constant-good}
+use Rattle.substitution.specs.Dues.{ResultGood, opened-good, itself-good, number-good, constant-good}
 use Rattle.safety.specs.Sane.{in-later}
 
 -- ARGUMENTS
