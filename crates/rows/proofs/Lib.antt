@@ -1,0 +1,16 @@
+pub mod Parts
+pub mod Store
+pub mod NineKinds
+pub mod Formed
+pub mod Table
+pub mod Lookup
+pub mod Sizes
+pub mod Agree
+pub mod Writing
+pub mod InTurn
+pub mod Leaves
+pub mod Answers
+pub mod RowRules
+pub mod TidyWords
+pub mod RightRow
+pub mod KeptRows
