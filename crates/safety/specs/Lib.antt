@@ -6,3 +6,6 @@ pub mod Safe
 pub mod Keeps
 pub mod NeverLost
 pub mod Answers
+pub mod Words
+pub mod Unique
+pub mod OnCall
