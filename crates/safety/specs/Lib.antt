@@ -9,3 +9,5 @@ pub mod Answers
 pub mod Words
 pub mod Unique
 pub mod OnCall
+pub mod Checks
+pub mod ExamplesOfRules
