@@ -2,7 +2,7 @@
 -- the input is shown ready by the test of Checks.antt, and `eval-answered` and `eval-refused` carry the one over to the other.
 -- The table is that of course/Examples.antt, which is shut outside its file; the read-outs of the answers stand there.
 use Prim.Native.Nat.{ℕ, _+_, _-_}
-use mathlib.Core.Path.{_≡_, refl, _∙_, sym, subst}
+use mathlib.Core.Path.{_≡_, refl, ap, _∙_, sym, subst}
 use mathlib.Core.Bool.{true}
 use mathlib.Core.List.{List, [], _∷_, map}
 use mathlib.Core.Option.{Option, none, some}
@@ -18,7 +18,7 @@ use Rattle.course.specs.Tables.{at, ap′, axiom′, of-form, declared, Case, a
 use Rattle.safety.specs.Lists.{none-some, some-same}
 use Rattle.safety.specs.Sane.{Ready}
 use Rattle.safety.specs.Checks.{passed, what-passed, Each, none-left, and-then, eachOf, readyAt}
-use Rattle.safety.specs.Answers.{eval-answered, eval-refused}
+use Rattle.safety.specs.Answers.{answered-eval, refused-eval, eval-answered, eval-refused}
 
 -- A CASE
 
@@ -50,6 +50,12 @@ seen-answer ds s c = refl
 
 pub case-holds : {ds : List Decl} {s : Store} {c : Case} {a : Answer} → CaseReady ds s c → seen ds s c .answer ≡ some a → RulesSay ds s c a
 case-holds {ds} {s} {c} r q = result-says r (result ds s c) refl (sym (seen-answer ds s c) ∙ q)
+
+-- the other way: what the rules say is the evaluator's answer
+pub rules-computed : {ds : List Decl} {s : Store} {c : Case} {a : Answer} → CaseReady ds s c → RulesSay ds s c a → answerOf s (result ds s c) ≡ some a
+unfolding result answerOf
+rules-computed {s = s} r (answers {t = t} {k = k} a q) = ap (answerOf s) (answered-eval r a) ∙ ap (λ (n : ℕ). some (term t k n)) q
+rules-computed {s = s} r (refuses a) = ap (answerOf s) (refused-eval r a)
 
 -- A TABLE
 
@@ -92,42 +98,65 @@ library = grow [] (
     leaf (const 7 0) ∷ leaf (num 9223372036854775808) ∷ ap′ 30 31 ∷ ap′ 32 25 ∷ leaf (const 6 0) ∷
     ap′ 34 0 ∷ ap′ 35 0 ∷ ap′ 36 0 ∷ ap′ 37 25 ∷ [])
 
-abbrev no-value : Entry
+abbrev pub no-value : Entry
 no-value = record { type = at 0; value = none }
 
 -- context, term; steps, free rows, nesting; the answer
-abbrev case : List Entry → ℕ → ℕ → ℕ → ℕ → Answer → Case
+abbrev pub case : List Entry → ℕ → ℕ → ℕ → ℕ → Answer → Case
 case xs r steps free nesting a = record { context = xs; asked = at r; steps = steps; free = free; nesting = nesting; says = a; reads = none }
 
 -- with room for anything, at depth 0
-abbrev ask : ℕ → Answer → Case
+abbrev pub ask : ℕ → Answer → Case
 ask r a = case [] r 1000000 65536 500 a
 
 -- the term by its pointer, steps, rows; new rows have the numbers from 39 on
+
+-- sort 0, steps 0: itself
+abbrev pub E1 : Case
+E1 = case [] 0 0 0 0 (term (at 0) 0 0)
+
+-- (lambda sort 0. var 0) sort 1: sort 1
+abbrev pub E2 : Case
+E2 = ask 6 (term (at 1) 1 0)
+
+-- (lambda sort 0. var 1) shifted 2, to sort 1, depth 3, no values: var 2
+abbrev pub E3 : Case
+E3 = case (no-value ∷ no-value ∷ no-value ∷ []) 8 1 1 0 (term (at 39) 1 1)
+
+-- let sort 2 := sort 1 in var 0: sort 1
+abbrev pub E4 : Case
+E4 = ask 9 (term (at 1) 1 0)
+
+-- depth 2, newest value var 0: var 0: var 1
+abbrev pub E5 : Case
+E5 = case (no-value ∷ record { type = at 0; value = some (at 3) } ∷ []) 3 1 0 0 (term (ptr 3 1) 1 0)
+
+-- Quot.lift, 6 arguments, major Quot.mk of 3: f a
+abbrev pub E6 : Case
+E6 = ask 21 (term (at 39) 1 1)
+
+-- same, Quot.mk of 4: itself
+abbrev pub E7 : Case
+E7 = ask 23 (term (at 23) 0 0)
+
+-- definition of level count 1, given 0: itself
+abbrev pub E8 : Case
+E8 = ask 24 (term (at 24) 0 0)
+
+-- sub 2 3: 0
+abbrev pub E9 : Case
+E9 = ask 29 (term (at 39) 1 1)
+
+-- mul 2^63 2: refusal 7
+abbrev pub E10 : Case
+E10 = ask 33 (refused 7 0)
+
+-- recursor 0, 1, 2, 0, major 2, rule value an axiom, 1 field: 4 applications
+abbrev pub E11 : Case
+E11 = ask 38 (term (at 45) 1 7)
+
 unfoldable pub table : List Case
-table =
-    -- E1: sort 0, steps 0: itself
-    case [] 0 0 0 0 (term (at 0) 0 0) ∷
-    -- E2: (lambda sort 0. var 0) sort 1: sort 1
-    ask 6 (term (at 1) 1 0) ∷
-    -- E3: (lambda sort 0. var 1) shifted 2, to sort 1, depth 3, no values: var 2
-    case (no-value ∷ no-value ∷ no-value ∷ []) 8 1 1 0 (term (at 39) 1 1) ∷
-    -- E4: let sort 2 := sort 1 in var 0: sort 1
-    ask 9 (term (at 1) 1 0) ∷
-    -- E5: depth 2, newest value var 0: var 0: var 1
-    case (no-value ∷ record { type = at 0; value = some (at 3) } ∷ []) 3 1 0 0 (term (ptr 3 1) 1 0) ∷
-    -- E6: Quot.lift, 6 arguments, major Quot.mk of 3: f a
-    ask 21 (term (at 39) 1 1) ∷
-    -- E7: same, Quot.mk of 4: itself
-    ask 23 (term (at 23) 0 0) ∷
-    -- E8: definition of level count 1, given 0: itself
-    ask 24 (term (at 24) 0 0) ∷
-    -- E9: sub 2 3: 0
-    ask 29 (term (at 39) 1 1) ∷
-    -- E10: mul 2^63 2: refusal 7
-    ask 33 (refused 7 0) ∷
-    -- E11: recursor 0, 1, 2, 0, major 2, rule value an axiom, 1 field: 4 applications
-    ask 38 (term (at 45) 1 7) ∷ []
+table = E1 ∷ E2 ∷ E3 ∷ E4 ∷ E5 ∷ E6 ∷ E7 ∷ E8 ∷ E9 ∷ E10 ∷ E11 ∷ []
 
 all-ready : (cs : List Case) → Option (Each (λ n c. CaseReady decls library c) 0 cs)
 all-ready cs = eachOf (λ n c. readyAt (declared decls (c .context)) (limitsFor library c) library (c .asked)) 0 cs
@@ -140,5 +169,8 @@ answers-computed : map (answer-seen decls library) table ≡ map answer-due tabl
 unfolding answer-seen answer-due decls library table
 answers-computed = refl
 
+pub table-ready : Each (λ n c. CaseReady decls library c) 0 table
+table-ready = what-passed (all-ready table) ready-passed
+
 pub E1-to-E11-of-the-rules : Each (λ n c. RulesSay decls library c (c .says)) 0 table
-E1-to-E11-of-the-rules = table-holds (what-passed (all-ready table) ready-passed) answers-computed
+E1-to-E11-of-the-rules = table-holds table-ready answers-computed

@@ -11,3 +11,4 @@ pub mod Unique
 pub mod OnCall
 pub mod Checks
 pub mod ExamplesOfRules
+pub mod Wrong
