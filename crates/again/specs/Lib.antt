@@ -1,2 +1,3 @@
 pub mod Embeds
 pub mod Carried
+pub mod Alike
