@@ -185,26 +185,32 @@ module _ (L : Likeness) where
   rule-later : {s s̃ s₁ s̃₁ : Store} → Grown (L .stores) s s̃ s₁ s̃₁ → (r r̃ : Rule) → RuleLike s s̃ r r̃ → RuleLike s₁ s̃₁ r r̃
   rule-later g r r̃ q = record { constructor = q .constructor; fields = q .fields; value = L .later g (q .value) }
 
-  form-later : {s s̃ s₁ s̃₁ : Store} {f f̃ : Form} → Grown (L .stores) s s̃ s₁ s̃₁ → FormLike s s̃ f f̃ → FormLike s₁ s̃₁ f f̃
-  form-later g plain-like = plain-like
-  form-later g constructor-like = constructor-like
-  form-later g (recursor-like q) = recursor-like (record {
+  pub recursor-later : {s s̃ s₁ s̃₁ : Store} {o õ : Recursor} → Grown (L .stores) s s̃ s₁ s̃₁ → RecursorLike s s̃ o õ → RecursorLike s₁ s̃₁ o õ
+  recursor-later g q = record {
     parameters = q .parameters;
     motives = q .motives;
     minors = q .minors;
     indices = q .indices;
     rules = each-later (rule-later g) (q .rules);
-  })
+  }
+
+  form-later : {s s̃ s₁ s̃₁ : Store} {f f̃ : Form} → Grown (L .stores) s s̃ s₁ s̃₁ → FormLike s s̃ f f̃ → FormLike s₁ s̃₁ f f̃
+  form-later g plain-like = plain-like
+  form-later g constructor-like = constructor-like
+  form-later g (recursor-like q) = recursor-like (recursor-later g q)
   form-later g structure-like = structure-like
+
+  pub decl-later : {s s̃ s₁ s̃₁ : Store} {D D̃ : Decl} → Grown (L .stores) s s̃ s₁ s̃₁ → DeclLike s s̃ D D̃ → DeclLike s₁ s̃₁ D D̃
+  decl-later g d = record {
+    form = form-later g (d .form);
+    levels = d .levels;
+    value = opt-later (λ a b r. L .later g r) (d .value);
+    role = d .role;
+  }
 
   pub env-later : {s s̃ s₁ s̃₁ : Store} {e ẽ : Env} → Grown (L .stores) s s̃ s₁ s̃₁ → EnvLike s s̃ e ẽ → EnvLike s₁ s̃₁ e ẽ
   env-later g v = record {
-    declared = λ d. record {
-      form = form-later g (v .declared d .form);
-      levels = v .declared d .levels;
-      value = opt-later (λ a b r. L .later g r) (v .declared d .value);
-      role = v .declared d .role;
-    };
+    declared = λ d. decl-later g (v .declared d);
     holders = v .holders;
     values = λ i. opt-later (λ a b r. L .later g r) (v .values i);
   }

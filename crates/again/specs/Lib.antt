@@ -1,3 +1,5 @@
 pub mod Embeds
 pub mod Carried
 pub mod Alike
+pub mod Tests
+pub mod Twins
