@@ -122,7 +122,7 @@ module _ (ρ : ℕ → ℕ) where
   no-app-renamed no-proj = no-proj
   no-app-renamed no-num = no-num
 
-  app-renamed : (f a z : Ptr) → renRow ρ (node app f a z) ≡ node app (ren ρ f) (ren ρ a) z
+  pub app-renamed : (f a z : Ptr) → renRow ρ (node app f a z) ≡ node app (ren ρ f) (ren ρ a) z
   unfolding renRow fields table
   app-renamed f a z = refl
 
@@ -157,11 +157,11 @@ module _ (ρ : ℕ → ℕ) where
         embeds = j .embeds;
       }
 
-  num-renamed : (n : ℕ) → renRow ρ (leaf (num n)) ≡ leaf (num n)
+  pub num-renamed : (n : ℕ) → renRow ρ (leaf (num n)) ≡ leaf (num n)
   unfolding renRow fields table
   num-renamed n = refl
 
-  const-renamed : (d n : ℕ) → renRow ρ (leaf (const d n)) ≡ leaf (const d n)
+  pub const-renamed : (d n : ℕ) → renRow ρ (leaf (const d n)) ≡ leaf (const d n)
   unfolding renRow fields table
   const-renamed d n = refl
 

@@ -3,3 +3,5 @@ pub mod Carried
 pub mod Alike
 pub mod Tests
 pub mod Twins
+pub mod Embedding
+pub mod Course
