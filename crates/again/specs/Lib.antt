@@ -5,3 +5,4 @@ pub mod Tests
 pub mod Twins
 pub mod Embedding
 pub mod Course
+pub mod Keeps
