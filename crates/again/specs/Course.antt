@@ -44,10 +44,10 @@ module _ (ρ : ℕ → ℕ) (e ẽ : Env) where
       runs : Runs ẽ d m̃ (ren ρ t) to (ren ρ t′)
       beside : Beside ρ a b m′ to
 
-    pub record ComesTo (d : ℕ) (m̃ : Tally) (ỹ : Try) (m′ : Tally) (o : End) : Type 0 where
-      pub to : Tally
-      pub comes : Comes ẽ d m̃ ỹ to (renEnd o)
-      pub beside : Beside ρ a b m′ to
+    record ComesTo (d : ℕ) (m̃ : Tally) (ỹ : Try) (m′ : Tally) (o : End) : Type 0 where
+      to : Tally
+      comes : Comes ẽ d m̃ ỹ to (renEnd o)
+      beside : Beside ρ a b m′ to
 
     mutual
       run-on : {d : ℕ} {m m̃ m′ : Tally} {t t′ : Ptr} → Runs e d m t m′ t′ → Beside ρ a b m m̃ → EnvCarried (m .store) (m̃ .store) → RunsTo d m̃ t m′ t′
@@ -61,7 +61,7 @@ module _ (ρ : ℕ → ℕ) (e ẽ : Env) where
           let k = run-on r (q .beside) (env-later (embedding ρ) g w) in
           record { to = k .to; runs = then (spine-carried ρ s (v .embeds)) (d .comes) (q .pays) (k .runs); beside = k .beside }
 
-      pub come-on : {d : ℕ} {m m̃ m′ : Tally} {y ỹ : Try} {o : End} → Comes e d m y m′ o → Beside ρ a b m m̃ → EnvCarried (m .store) (m̃ .store) →
+      come-on : {d : ℕ} {m m̃ m′ : Tally} {y ỹ : Try} {o : End} → Comes e d m y m′ o → Beside ρ a b m m̃ → EnvCarried (m .store) (m̃ .store) →
           Twin (embedding ρ) (m .store) (m̃ .store) y ỹ → ComesTo d m̃ ỹ m′ o
       come-on {m̃ = m̃} misses v w no-rules = record { to = m̃; comes = misses; beside = v }
       come-on {m̃ = m̃} (fires-now {r = r} {xs = xs}) v w (both-fire z q) = record { to = m̃; comes = fires-renamed r xs (result-is ρ z) (each-is ρ q); beside = v }
@@ -155,6 +155,26 @@ module _ (ρ : ℕ → ℕ) (e ẽ : Env) where
         embeds = k .beside .embeds;
         steps = let q = k .beside .steps in omega arith;
         rows = as-many ρ i (k .beside .embeds) (ext-longer (later-runs e r .rows));
+      }
+
+  -- the same of one try at the head
+  pub record TryCarried (d : ℕ) (m m̃ : Tally) (h : Ptr) (xs : List Ptr) (m′ : Tally) (o : End) : Type 0 where
+    pub to : Tally
+    pub comes : Comes ẽ d m̃ (rules ẽ (m̃ .store) (ren ρ h) (map (ren ρ) xs)) to (renEnd o)
+    pub embeds : Embeds ρ (m′ .store) (to .store)
+    pub steps : to .steps + m .steps ≡ m̃ .steps + m′ .steps
+    pub rows : length (to .store) + length (m .store) ≡ length (m̃ .store) + length (m′ .store)
+
+  pub try-carried : {d : ℕ} {m m̃ m′ : Tally} (h : Ptr) (xs : List Ptr) {o : End} →
+      Embeds ρ (m .store) (m̃ .store) → EnvCarried (m .store) (m̃ .store) → Comes e d m (rules e (m .store) h xs) m′ o → TryCarried d m m̃ h xs m′ o
+  try-carried {m = m} {m̃ = m̃} h xs i v c =
+      let k = come-on (m .steps) (m̃ .steps) c (start i) v (twins-at i v h xs) in
+      record {
+        to = k .to;
+        comes = k .comes;
+        embeds = k .beside .embeds;
+        steps = let q = k .beside .steps in omega arith;
+        rows = as-many ρ i (k .beside .embeds) (ext-longer (later-comes e c .rows));
       }
 
   -- the same demand, at corresponding tallies

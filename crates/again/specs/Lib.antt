@@ -6,3 +6,4 @@ pub mod Twins
 pub mod Embedding
 pub mod Course
 pub mod Keeps
+pub mod Again
