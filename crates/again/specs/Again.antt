@@ -16,12 +16,12 @@ use Rattle.rules.specs.Spines.{Spine}
 use Rattle.rules.specs.Firings.{Tally, tally}
 use Rattle.rules.specs.HeadRules.{Reduces, Stuck}
 use Rattle.rules.specs.HeadRules as H
-use Rattle.rules.specs.Refusals.{Limits, Within}
+use Rattle.rules.specs.Refusals.{Limits, Within, Answered}
 use Rattle.course.specs.Tries.{rules, missed, Runs, final, Comes}
 use Rattle.course.specs.ToTries.{to-runs}
-use Rattle.course.specs.FromTries.{from-runs}
+use Rattle.course.specs.FromTries.{HeadEnd, is-stuck, rules-end, from-comes}
 use Rattle.course.specs.Eval.{Res, ok, no, lost, eval}
-use Rattle.promises.specs.Stores.{ext-longer, later-comes}
+use Rattle.promises.specs.Stores.{ext-longer, later-runs, later-comes}
 use Rattle.promises.specs.Says.{ResSays, r-ok, r-no, r-lost, says}
 use Rattle.promises.specs.Complete.{eval-complete-term}
 use Rattle.substitution.specs.Places.{ltb-below, ltb-from}
@@ -118,3 +118,76 @@ module _ {e : Env} {d : ℕ} where
 
   pub again : {s : Store} {m : Tally} {t t′ : Ptr} → Formed s → Good s t → EnvStands s e → Runs e d (tally 0 s) t m t′ → Again e d s m t′
   again f o v r = from-last v (last-try e r (record { formed = f; good = o }) v)
+
+-- WITHIN THE LIMITS: the same steps, and as many free rows as the first call had
+
+unfoldable pub room-again : Limits → Store → Store → Limits
+room-again lim s s′ = record { steps = lim .steps; rows = length s′ + (lim .rows - length s) }
+
+within-again : (lim : Limits) (s : Store) {m to : Tally} → Within lim m → length s ≤ length (m .store) → to .steps ≤ m .steps →
+    length (to .store) + length s ≤ length (m .store) + length (m .store) → Within (room-again lim s (m .store)) to
+unfolding room-again
+within-again lim s w l p q = record { steps = let h = w .steps in omega arith; rows = let h = w .rows in omega arith }
+
+-- THE RULES: no rule fires at level 0
+
+pub record AnsweredAgain (e : Env) (lim : Limits) (n : ℕ) (s : Store) (m : Tally) (t : Ptr) : Type 0 where
+  pub to : Tally
+  pub stuck : Stuck e n (tally 0 (m .store)) t to
+  pub within : Within (room-again lim s (m .store)) to
+  pub steps : to .steps ≤ m .steps
+  pub rows : length (to .store) + length s ≤ length (m .store) + length (m .store)
+
+stuck-of : {e : Env} {d : ℕ} {m m′ : Tally} {t : Ptr} → HeadEnd e d m t m′ missed → Stuck e d m t m′
+stuck-of (is-stuck s) = s
+
+pub answers-itself : {e : Env} {lim : Limits} {n : ℕ} {s : Store} {m : Tally} {t t′ : Ptr} → Formed s → Good s t → EnvStands s e →
+    Reduces e n (tally 0 s) t m t′ → Within lim m → AnsweredAgain e lim n s m t′
+answers-itself {e} {lim} {s = s} f o v r w =
+    let q = to-runs e r in
+    let k = again f o v q in
+    record {
+      to = k .to;
+      stuck = stuck-of (rules-end e (k .spine) (from-comes e (k .comes)));
+      within = within-again lim s w (ext-longer (later-runs e q .rows)) (k .steps) (k .rows);
+      steps = k .steps;
+      rows = k .rows;
+    }
+
+-- so the rules' answer to it is the pointer it had
+pub answered-again : {e : Env} {lim : Limits} {n : ℕ} {s : Store} {m : Tally} {t : Ptr} (a : AnsweredAgain e lim n s m t) →
+    Answered e (room-again lim s (m .store)) n (m .store) t t (a .to .steps) (a .to .store)
+answered-again a = record { reduces = H.final (a .stuck); within = a .within }
+
+-- THE EVALUATOR
+
+record Ran (e : Env) (lim : Limits) (d : ℕ) (m : Tally) (t : Ptr) (m′ : Tally) (t′ : Ptr) : Type 0 where
+  runs : Runs e d m t m′ t′
+  within : Within lim m′
+
+ran : {e : Env} {lim : Limits} {d : ℕ} {m m′ : Tally} {t t′ : Ptr} {o : Res} → ResSays e lim d m t o → o ≡ ok m′ t′ → Ran e lim d m t m′ t′
+ran {m′ = m′} {t′ = t′} (r-ok {m′ = m₁} {t′ = t₁} r v) q =
+    let p : m₁ ≡ m′ = cc in
+    let p′ : t₁ ≡ t′ = cc in
+    rw (← p, ← p′) (record { runs = r; within = v })
+ran {m′ = m′} {t′ = t′} (r-no {k = k} x v f) q = absurd (let z : _≡_ {A = ℕ} 0 1 = cc in omega arith)
+ran {m′ = m′} {t′ = t′} (r-lost x) q = absurd (let z : _≡_ {A = ℕ} 0 1 = cc in omega arith)
+
+pub record EvalAgain (e : Env) (lim : Limits) (n : ℕ) (s : Store) (m : Tally) (t : Ptr) : Type 0 where
+  pub to : Tally
+  pub evals : eval e (room-again lim s (m .store)) n (m .store) t ≡ ok to t
+  pub steps : to .steps ≤ m .steps
+  pub rows : length (to .store) + length s ≤ length (m .store) + length (m .store)
+
+pub eval-again : {e : Env} {lim : Limits} {n : ℕ} {s : Store} {m : Tally} {t t′ : Ptr} → Formed s → Good s t → EnvStands s e → length s ≤ lim .rows →
+    (eval e (room-again lim s (m .store)) n (m .store) t′ ≡ lost → ⊥) → eval e lim n s t ≡ ok m t′ → EvalAgain e lim n s m t′
+eval-again {e} {lim} {n} {s} {m} {t} f o v h l q =
+    let r = ran (says e lim n s t h) q in
+    let k = again f o v (r .runs) in
+    record {
+      to = k .to;
+      evals = eval-complete-term e (room-again lim s (m .store)) (final (k .spine) (k .comes))
+          (within-again lim s (r .within) (ext-longer (later-runs e (r .runs) .rows)) (k .steps) (k .rows)) l;
+      steps = k .steps;
+      rows = k .rows;
+    }
