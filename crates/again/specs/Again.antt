@@ -1,15 +1,15 @@
 -- Reduced again, a final term answers itself: from the store that the first run left no rule fires at level 0, and no more steps are taken and no more rows
 -- written than the first run took and wrote. The last try of the first run is embedded into the store that it left: old rows stay, new rows move past the end.
 -- Assumes a formed store, a good term and an environment whose pointers stand in the store; for the evaluator, that it is not lost the second time.
-use Prim.Native.Nat.{ℕ, zero, suc, _+_, _-_, _≤_, _<_}
+use Prim.Native.Nat.{ℕ, _+_, _-_, _≤_, _<_}
 use native.Mathlib.Omega.{arith}
 use mathlib.Core.Path.{_≡_, refl, sym, ap, _∙_, subst}
 use mathlib.Core.Bool.{Bool, true, false}
 use mathlib.Core.List.{List, [], map}
 use lib.ListN.{length, length-append}
 use lib.Dec.{ltb}
-use Rattle.rules.specs.Kinds.{Kind, Tag, plain, term, body, fields}
-use Rattle.rules.specs.Rows.{Ptr, ptr, Row, var, node, Cell, Store, cellAt, rowAt}
+use Rattle.rules.specs.Kinds.{Tag, fields}
+use Rattle.rules.specs.Rows.{Ptr, ptr, Row, node, Store, cellAt}
 use Rattle.rules.specs.RowCheck.{FieldOk, plain-ok, term-ok, body-ok}
 use Rattle.rules.specs.Declarations.{Env}
 use Rattle.rules.specs.Spines.{Spine}
@@ -20,7 +20,7 @@ use Rattle.rules.specs.Refusals.{Limits, Within, Answered}
 use Rattle.course.specs.Tries.{rules, missed, Runs, final, Comes}
 use Rattle.course.specs.ToTries.{to-runs}
 use Rattle.course.specs.FromTries.{HeadEnd, is-stuck, rules-end, from-comes}
-use Rattle.course.specs.Eval.{Res, ok, no, lost, eval}
+use Rattle.course.specs.Eval.{Res, ok, lost, eval}
 use Rattle.promises.specs.Stores.{ext-longer, later-runs, later-comes}
 use Rattle.promises.specs.Says.{ResSays, r-ok, r-no, r-lost, says}
 use Rattle.promises.specs.Complete.{eval-complete-term}
@@ -28,10 +28,9 @@ use Rattle.substitution.specs.Places.{ltb-below, ltb-from}
 use Rattle.substitution.specs.Stores.{FieldsOk, var-fields, node-fields, Formed, Good, fields-good, Ext, ext-length, ext-cell}
 use Rattle.again.specs.Embeds.{ren, renField, renRow, Embeds}
 use Rattle.again.specs.Carried.{spine-carried, as-ext}
-use Rattle.again.specs.Alike.{EnvLike}
 use Rattle.again.specs.Embedding.{embedding}
 use Rattle.again.specs.Course.{EnvCarried, try-carried}
-use Rattle.again.specs.Keeps.{EnvStands, env-itself, env-stands-later, Stands, LastTry, last-try}
+use Rattle.again.specs.Keeps.{EnvStands, env-itself, env-stands-later, LastTry, last-try}
 
 -- OLD ROWS STAY, NEW ONES MOVE PAST THE END
 
@@ -87,6 +86,11 @@ grown-embeds {s} {s′} f x = record {
 
 -- REDUCED AGAIN
 
+-- against the first run, from s to m: no more steps, and no more rows written
+pub record NoDearer (s : Store) (m to : Tally) : Type 0 where
+  pub steps : to .steps ≤ m .steps
+  pub rows : length (to .store) - length (m .store) ≤ length (m .store) - length s
+
 -- the second run, from the store that the first left, is one try that is missed
 pub record Again (e : Env) (d : ℕ) (s : Store) (m : Tally) (t : Ptr) : Type 0 where
   pub to : Tally
@@ -94,8 +98,7 @@ pub record Again (e : Env) (d : ℕ) (s : Store) (m : Tally) (t : Ptr) : Type 0 
   pub arguments : List Ptr
   pub spine : Spine (m .store) t [] head arguments
   pub comes : Comes e d (tally 0 (m .store)) (rules e (m .store) head arguments) to missed
-  pub steps : to .steps ≤ m .steps
-  pub rows : length (to .store) + length s ≤ length (m .store) + length (m .store)
+  pub cost : NoDearer s m to
 
 module _ {e : Env} {d : ℕ} where
   from-last : {s : Store} {m : Tally} {t′ : Ptr} → EnvStands s e → LastTry e d (tally 0 s) m t′ → Again e d s m t′
@@ -112,8 +115,7 @@ module _ {e : Env} {d : ℕ} where
         arguments = map (ren ρ) (l .arguments);
         spine = subst (λ (p : Ptr). Spine (m .store) p [] (ren ρ (l .head)) (map (ren ρ) (l .arguments))) (fixed t′ (l .stands .good .lower)) (spine-carried ρ (l .spine) i);
         comes = k .comes;
-        steps = let q = k .steps in omega arith;
-        rows = let q = k .rows in let h = ext-longer (l .since .rows) in omega arith;
+        cost = record { steps = let q = k .steps in omega arith; rows = let q = k .rows in let h = ext-longer (l .since .rows) in omega arith };
       }
 
   pub again : {s : Store} {m : Tally} {t t′ : Ptr} → Formed s → Good s t → EnvStands s e → Runs e d (tally 0 s) t m t′ → Again e d s m t′
@@ -124,10 +126,12 @@ module _ {e : Env} {d : ℕ} where
 unfoldable pub room-again : Limits → Store → Store → Limits
 room-again lim s s′ = record { steps = lim .steps; rows = length s′ + (lim .rows - length s) }
 
-within-again : (lim : Limits) (s : Store) {m to : Tally} → Within lim m → length s ≤ length (m .store) → to .steps ≤ m .steps →
-    length (to .store) + length s ≤ length (m .store) + length (m .store) → Within (room-again lim s (m .store)) to
+within-again : (lim : Limits) (s : Store) {m to : Tally} → Within lim m → length s ≤ length (m .store) → NoDearer s m to → Within (room-again lim s (m .store)) to
 unfolding room-again
-within-again lim s w l p q = record { steps = let h = w .steps in omega arith; rows = let h = w .rows in omega arith }
+within-again lim s w l c =
+    let p = c .steps in
+    let q = c .rows in
+    record { steps = let h = w .steps in omega arith; rows = let h = w .rows in omega arith }
 
 -- THE RULES: no rule fires at level 0
 
@@ -135,8 +139,7 @@ pub record AnsweredAgain (e : Env) (lim : Limits) (n : ℕ) (s : Store) (m : Tal
   pub to : Tally
   pub stuck : Stuck e n (tally 0 (m .store)) t to
   pub within : Within (room-again lim s (m .store)) to
-  pub steps : to .steps ≤ m .steps
-  pub rows : length (to .store) + length s ≤ length (m .store) + length (m .store)
+  pub cost : NoDearer s m to
 
 stuck-of : {e : Env} {d : ℕ} {m m′ : Tally} {t : Ptr} → HeadEnd e d m t m′ missed → Stuck e d m t m′
 stuck-of (is-stuck s) = s
@@ -149,9 +152,8 @@ answers-itself {e} {lim} {s = s} f o v r w =
     record {
       to = k .to;
       stuck = stuck-of (rules-end e (k .spine) (from-comes e (k .comes)));
-      within = within-again lim s w (ext-longer (later-runs e q .rows)) (k .steps) (k .rows);
-      steps = k .steps;
-      rows = k .rows;
+      within = within-again lim s w (ext-longer (later-runs e q .rows)) (k .cost);
+      cost = k .cost;
     }
 
 -- so the rules' answer to it is the pointer it had
@@ -176,8 +178,7 @@ ran {m′ = m′} {t′ = t′} (r-lost x) q = absurd (let z : _≡_ {A = ℕ} 0
 pub record EvalAgain (e : Env) (lim : Limits) (n : ℕ) (s : Store) (m : Tally) (t : Ptr) : Type 0 where
   pub to : Tally
   pub evals : eval e (room-again lim s (m .store)) n (m .store) t ≡ ok to t
-  pub steps : to .steps ≤ m .steps
-  pub rows : length (to .store) + length s ≤ length (m .store) + length (m .store)
+  pub cost : NoDearer s m to
 
 pub eval-again : {e : Env} {lim : Limits} {n : ℕ} {s : Store} {m : Tally} {t t′ : Ptr} → Formed s → Good s t → EnvStands s e → length s ≤ lim .rows →
     (eval e (room-again lim s (m .store)) n (m .store) t′ ≡ lost → ⊥) → eval e lim n s t ≡ ok m t′ → EvalAgain e lim n s m t′
@@ -187,7 +188,6 @@ eval-again {e} {lim} {n} {s} {m} {t} f o v h l q =
     record {
       to = k .to;
       evals = eval-complete-term e (room-again lim s (m .store)) (final (k .spine) (k .comes))
-          (within-again lim s (r .within) (ext-longer (later-runs e (r .runs) .rows)) (k .steps) (k .rows)) l;
-      steps = k .steps;
-      rows = k .rows;
+          (within-again lim s (r .within) (ext-longer (later-runs e (r .runs) .rows)) (k .cost)) l;
+      cost = k .cost;
     }

@@ -6,8 +6,8 @@ use mathlib.Core.Bool.{Bool, true, false}
 use mathlib.Core.List.{List, [], _∷_, _++_}
 use mathlib.Core.Option.{Option, none, some}
 use lib.ListN.{length, take, drop}
-use Rattle.rules.specs.Kinds.{Kind, sort, const, app, lam, pi, let′, proj, num}
-use Rattle.rules.specs.Rows.{Ptr, blank, Row, var, node, leaf, Cell, Store, cell, up, grow, put}
+use Rattle.rules.specs.Kinds.{sort, const, app, lam, pi, let′, proj, num}
+use Rattle.rules.specs.Rows.{Ptr, blank, Row, var, node, leaf, Store, up, grow, put}
 use Rattle.rules.specs.Declarations.{Role, Rule, Recursor, Form, plain, constructor, recursor, structure, Decl, Env, nth, declAt, holder, valueOf}
 use Rattle.rules.specs.Firings.{Result, opened, itself, a-number, a-constant}
 use Rattle.rules.specs.HeadTests.{given, provided}

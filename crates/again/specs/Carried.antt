@@ -1,12 +1,12 @@
 -- An embedding carries replacement, spines, what a firing has due and what it pays: on the other side the same is done with everything renamed,
 -- as many rows are written, and the embedding goes on between the grown stores. Assumes nothing of the stores.
-use Prim.Native.Nat.{ℕ, suc, _+_, _-_, _≤_, _<_}
+use Prim.Native.Nat.{ℕ, suc, _+_, _-_}
 use native.Mathlib.Omega.{arith}
 use mathlib.Core.Path.{_≡_, refl, sym, ap, _∙_, subst}
 use mathlib.Core.List.{List, [], _∷_, map}
 use mathlib.Core.Option.{Option, none, some}
-use Rattle.rules.specs.Kinds.{Kind, app, const, num, Tag, plain, term, body, table, fields}
-use Rattle.rules.specs.Rows.{Ptr, ptr, blank, Row, var, node, leaf, Cell, Store, rowAt, bound, up, Got, got, put}
+use Rattle.rules.specs.Kinds.{Kind, app, const, num, Tag, table, fields}
+use Rattle.rules.specs.Rows.{Ptr, ptr, blank, Row, var, node, leaf, Store, up, Got, got, put}
 use Rattle.rules.specs.Replacement.{count, Replaces, same, moved, inside, OnRow, stays, value, moves, children, OnField, word, child, under}
 use Rattle.rules.specs.Spines.{NoApp, no-var, no-sort, no-const, no-lam, no-pi, no-let, no-proj, no-num, Spine, head, through, joined}
 use Rattle.rules.specs.Firings.{Tally, tally, Result, opened, itself, a-number, a-constant, Gives, by-replacement, no-row, number-row, constant-row, Due, NumberFits, opened-fits, itself-fits, number-fits, constant-fits, Pays}
@@ -14,7 +14,7 @@ use Rattle.rules.specs.Refusals.{Demand, step, fitting, row, level, Asks, its-s
 use Rattle.substitution.specs.Stores.{Ext}
 use Rattle.promises.specs.Stores.{ext-due}
 use Rattle.promises.specs.Stores as P
-use Rattle.again.specs.Embeds.{ren, renField, renRow, renCell, Embeds, row-at, bound-at, up-at, put-embeds, end-renamed, written-carried, RowDueTo, row-due-carried}
+use Rattle.again.specs.Embeds.{ren, renField, renRow, renCell, Embeds, row-at, bound-at, up-at, put-embeds, end-renamed, written-carried, row-due-carried}
 
 module _ (ρ : ℕ → ℕ) where
   -- what is got on one side is got by R on the other, its pointer renamed by f

@@ -1,16 +1,15 @@
 -- The simulation: an embedding of stores carries a course to a course. On the other side the course takes as many steps, writes as many rows, goes as
 -- deep, ends in the same term renamed, and meets the same demands. Assumes nothing but the embedding and environments that are alike under it.
-use Prim.Native.Nat.{ℕ, zero, suc, _+_, _≤_}
+use Prim.Native.Nat.{ℕ, _+_}
 use native.Mathlib.Omega.{arith}
-use mathlib.Core.Path.{_≡_, refl, sym, ap, _∙_, subst}
-use mathlib.Core.List.{List, [], map}
+use mathlib.Core.Path.{_≡_, refl, subst}
+use mathlib.Core.List.{List, map}
 use lib.ListN.{length}
-use Rattle.rules.specs.Rows.{Ptr, Row, Store, rowAt, grow}
+use Rattle.rules.specs.Rows.{Ptr, Store}
 use Rattle.rules.specs.Declarations.{Env}
-use Rattle.rules.specs.Firings.{Tally, tally, Result, Pays}
-use Rattle.rules.specs.Spines.{Spine}
+use Rattle.rules.specs.Firings.{Tally, tally, Result}
 use Rattle.rules.specs.Refusals.{Demand, Limits, Within, Fails, no-step, no-free-row, no-level, too-large, no-size}
-use Rattle.course.specs.Tries.{Try, fires, writes, reduces, rules, End, missed, firing, Runs, final, then, Comes, misses, fires-now, wrote, side, RunMeets, trying, paying, later, TryMeets, writing, after-writing, too-deep, within, after-side}
+use Rattle.course.specs.Tries.{Try, fires, rules, End, missed, firing, Runs, final, then, Comes, misses, fires-now, wrote, side, RunMeets, trying, paying, later, TryMeets, writing, after-writing, too-deep, within, after-side}
 use Rattle.promises.specs.Stores.{Later, later-trans, ext-longer, later-runs, later-comes, later-pays, later-run-meets}
 use Rattle.again.specs.Embeds.{ren, Embeds, as-many, fits-renamed, fits-back, written-carried, row-due-carried}
 use Rattle.again.specs.Carried.{renResult, renDemand, spine-carried, as-ext, Beside, pays-carried, asks-carried}

@@ -3,8 +3,7 @@
 use Prim.Native.Nat.{ℕ}
 use mathlib.Core.Path.{_≡_, refl, sym, ap, _∙_, subst}
 use mathlib.Core.List.{List, [], _∷_, map}
-use lib.ListN.{length}
-use Rattle.rules.specs.Kinds.{Kind, sort, const, app, lam, pi, let′, proj, num, table, fields}
+use Rattle.rules.specs.Kinds.{sort, const, app, lam, pi, let′, proj, num, table, fields}
 use Rattle.rules.specs.Rows.{Ptr, ptr, Row, var, node, Store, rowAt, up, put}
 use Rattle.rules.specs.Firings.{Result, opened, itself}
 use Rattle.again.specs.Embeds.{ren, renRow, Embeds, row-at, up-at, put-embeds, end-renamed}

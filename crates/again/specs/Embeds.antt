@@ -1,14 +1,14 @@
 -- An embedding of stores: the same rows up to their numbers. Its laws: what a pointer reads on both sides, a row put at the end, rows written in turn,
 -- and that the new rows on one side are the new rows on the other, renamed. Assumes nothing: past the ends, too, the two sides agree.
 use Prim.Native.Nat.{ℕ, zero, suc, _+_, _-_, _≤_, _<_, pred, max}
-use native.Mathlib.Nat.{add-zero, add-assoc}
+use native.Mathlib.Nat.{add-zero}
 use native.Mathlib.Omega.{arith}
 use mathlib.Core.Path.{_≡_, refl, sym, ap, _∙_, subst}
 use mathlib.Core.List.{List, [], _∷_, _++_, map, append-assoc}
 use lib.ListN.{length, getD, length-append, length-map, List·getD-map}
 use lib.Seq.{ext-getD}
-use Rattle.rules.specs.Kinds.{Kind, Tag, plain, term, body, table, fields}
-use Rattle.rules.specs.Rows.{Ptr, ptr, Row, var, node, Cell, Store, cellAt, rowAt, boundOn, bound, upOn, up, fieldBound, fieldHeight, cell, grow, Got, got, put}
+use Rattle.rules.specs.Kinds.{Tag, plain, term, body, table, fields}
+use Rattle.rules.specs.Rows.{Ptr, ptr, Row, var, node, Cell, Store, cellAt, rowAt, boundOn, bound, upOn, up, fieldBound, fieldHeight, cell, grow, put}
 use Rattle.rules.specs.RowCheck.{Fits}
 use Rattle.rules.specs.Firings.{AllFit, none-left, and-then, Written}
 use Rattle.rules.specs.Refusals.{RowDue}

@@ -1,27 +1,27 @@
 -- What a run keeps: from a formed store and good pointers it leads to a formed store and a good pointer. It is the rules' twins once more, under the
 -- likeness that asks of a pointer only that it stands in its store. Then the last try of a run: where it starts, the store is formed and the term good.
 -- Assumes a formed store, a good term, and that the environment's pointers stand in the store.
-use Prim.Native.Nat.{ℕ, zero, suc, _+_, _<_}
+use Prim.Native.Nat.{ℕ, suc}
 use native.Mathlib.Omega.{arith}
-use mathlib.Core.Path.{_≡_, refl, sym, ap, _∙_, subst}
+use mathlib.Core.Path.{_≡_, refl, subst}
 use mathlib.Core.List.{List, [], _∷_}
 use mathlib.Core.Option.{Option, none, some}
 use lib.ListN.{length}
-use Rattle.rules.specs.Kinds.{Kind, sort, const, app, lam, pi, let′, proj, num, table, fields}
-use Rattle.rules.specs.Rows.{Ptr, blank, Row, var, node, Store, rowAt, up, grow, Got, put}
+use Rattle.rules.specs.Kinds.{sort, const, app, lam, pi, let′, proj, num, table, fields}
+use Rattle.rules.specs.Rows.{Ptr, Row, var, node, Store, rowAt, Got, put}
 use Rattle.rules.specs.RowCheck.{plain-ok, term-ok}
-use Rattle.rules.specs.Declarations.{Rule, Recursor, Form, plain, constructor, recursor, structure, Decl, Env, nth, declAt, valueOf}
+use Rattle.rules.specs.Declarations.{Rule, Recursor, Form, plain, constructor, recursor, structure, Env, nth, declAt, valueOf}
 use Rattle.rules.specs.Spines.{Spine}
-use Rattle.rules.specs.Firings.{Tally, tally, Result, Due, Pays}
+use Rattle.rules.specs.Firings.{Tally, Result, Due, Pays}
 use Rattle.course.specs.Tries.{Try, rules, End, missed, firing, Runs, final, then, Comes, misses, fires-now, wrote, side}
 use Rattle.promises.specs.Stores.{Later, later-refl, later-trans, later-writes, later-runs, later-comes, later-pays}
-use Rattle.substitution.specs.Stores.{FieldsOk, var-fields, node-fields, first-ok, second-ok, third-ok, term-child, body-child, Formed, Good, good-fields, ext-same, ext-good, put-formed, put-good, up-child}
+use Rattle.substitution.specs.Stores.{FieldsOk, node-fields, first-ok, second-ok, third-ok, term-child, body-child, Formed, Good, good-fields, ext-same, ext-good, put-formed, put-good, up-child}
 use Rattle.substitution.specs.Reading.{reads-exists}
 use Rattle.substitution.specs.Existence.{Kept}
 use Rattle.substitution.specs.Applied.{AllGood, no-more, and-good, all-good, none-left, spine-reads}
 use Rattle.substitution.specs.Paid.{opened-good, itself-good, number-good, constant-good, due-keeps}
 use Rattle.again.specs.Carried.{as-ext}
-use Rattle.again.specs.Alike.{Opt, nones, somes, Each, ended, next, Grown, NewRow, new-const, new-num, new-app, Likeness, rows-grown, ResultLike, opened-like, itself-like, number-like, constant-like, HeadLike, head-var, head-sort, head-const, head-app, head-lam, head-pi, head-let, head-proj, head-num, RuleLike, FormLike, plain-like, constructor-like, recursor-like, structure-like, EnvLike}
+use Rattle.again.specs.Alike.{Opt, nones, somes, Each, ended, next, NewRow, new-const, new-num, new-app, Likeness, rows-grown, ResultLike, opened-like, itself-like, number-like, constant-like, HeadLike, head-var, head-sort, head-const, head-app, head-lam, head-pi, head-let, head-proj, head-num, FormLike, plain-like, constructor-like, recursor-like, structure-like, EnvLike}
 use Rattle.again.specs.Twins.{Twin, no-rules, both-fire, both-write, both-reduce, rules-twin, head-row}
 
 -- THE ENVIRONMENT: the pointers that reduction reads stand in the store

@@ -1,20 +1,19 @@
 -- What the rules test without a reduction comes out alike on two sides that are alike: each test of the rules is there on both or on neither, and what
 -- it takes is alike. Assumes a likeness, and stores and environments that are alike.
 use Prim.Native.Nat.{ℕ, zero, suc, _+_, _-_}
-use native.Mathlib.Omega.{arith}
-use mathlib.Core.Path.{_≡_, refl, sym, ap, _∙_, subst}
+use mathlib.Core.Path.{_≡_, refl, ap, subst}
 use mathlib.Core.Bool.{Bool, true, false}
-use mathlib.Core.List.{List, [], _∷_}
+use mathlib.Core.List.{List}
 use mathlib.Core.Option.{Option, none, some}
 use lib.ListN.{length, take, drop}
 use lib.Dec.{eqb, leb}
 use Rattle.rules.specs.Kinds.{Kind, sort, const, app, lam, pi, let′, proj, num}
-use Rattle.rules.specs.Rows.{Ptr, ptr, Row, var, node, Store, cell, grow, put}
-use Rattle.rules.specs.Declarations.{Role, zero′, succ′, true′, false′, quot-mk, Rule, Recursor, Form, Decl, Env, nth, declAt, roleCode, holder}
+use Rattle.rules.specs.Rows.{Ptr, ptr, Row, var, node, Store, grow, put}
+use Rattle.rules.specs.Declarations.{Role, zero′, succ′, true′, false′, quot-mk, Rule, Recursor, Form, Decl, Env, nth, roleCode}
 use Rattle.rules.specs.Arithmetic.{Op, add, sub, mul, div, mod′, beq, ble, Computed, number, truth}
 use Rattle.rules.specs.HeadTests.{held, both, asConstant, asNumber, parametersOf, fieldAt, quotPosition, QuotParts, quotParts, thirdOfThree, quotMade, recursorOf, beforeIndices, majorPosition, RecParts, recParts, Made, numberMade, madeOn, asConstructor, ruleOn, ruleFor, lastOf, Ruled, byRule, operationOf, tried, Operands, exactlyTwo, operands, outcome, unfolds}
 use Rattle.substitution.specs.Stores.{put-length}
-use Rattle.again.specs.Alike.{Opt, nones, somes, Each, ended, next, nth-like, drop-like, take-like, append-like, length-like, given-like, provided-like, same-given, Grown, NewRow, new-const, new-num, new-app, Likeness, grown-then, pointers-later, RowsLike, no-rows, row-then, put-grown, ResultLike, number-like, constant-like, RuleLike, RecursorLike, FormLike, plain-like, constructor-like, recursor-like, structure-like, DeclLike, EnvLike}
+use Rattle.again.specs.Alike.{Opt, nones, somes, Each, ended, next, nth-like, drop-like, take-like, append-like, length-like, given-like, provided-like, same-given, NewRow, new-const, new-num, new-app, Likeness, RowsLike, no-rows, row-then, put-grown, ResultLike, number-like, constant-like, RuleLike, RecursorLike, FormLike, plain-like, constructor-like, recursor-like, structure-like, DeclLike, EnvLike}
 
 -- ROWS: two variables, or the same kind with the same words
 

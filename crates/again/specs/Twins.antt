@@ -1,15 +1,14 @@
 -- Tries that are twins: on two sides that are alike they ask for the same in the same order. Shows that the rules at heads that are alike are twins.
 -- Assumes a likeness, and stores, environments, heads and arguments that are alike. Whatever is shown of all twins holds of the rules.
 use Prim.Native.Nat.{ℕ, suc, _+_}
-use mathlib.Core.Path.{_≡_, refl, sym, ap, _∙_, subst}
-use mathlib.Core.List.{List, []}
+use mathlib.Core.Path.{_≡_, subst}
+use mathlib.Core.List.{List}
 use mathlib.Core.Option.{Option, none, some}
-use Rattle.rules.specs.Kinds.{Kind, sort, const, app, lam, pi, let′, proj, num}
-use Rattle.rules.specs.Rows.{Ptr, Row, var, node, Store, rowAt, up, grow}
-use Rattle.rules.specs.Declarations.{Decl, Env, declAt, valueOf}
+use Rattle.rules.specs.Rows.{Ptr, Row, Store, rowAt, grow}
+use Rattle.rules.specs.Declarations.{Decl, Env}
 use Rattle.rules.specs.Arithmetic.{Op, compute}
 use Rattle.rules.specs.Firings.{Result}
-use Rattle.rules.specs.HeadTests.{asNumber, outcome}
+use Rattle.rules.specs.HeadTests.{outcome}
 use Rattle.course.specs.Tries.{Try, no-rule, fires, writes, reduces, with-it, _or-else_, lambda, variable, projection, quot, recursion, arithmetic, delta, constant, atRow, rules}
 use Rattle.again.specs.Alike.{Opt, nones, somes, Each, ended, next, Grown, Likeness, grown-same, grown-then, pointers-later, RowsLike, rows-grown, ResultLike, opened-like, itself-like, HeadLike, head-var, head-sort, head-const, head-app, head-lam, head-pi, head-let, head-proj, head-num, recursor-later, DeclLike, decl-later, EnvLike, env-later}
 use Rattle.again.specs.Tests.{RowLike, vars, nodes, same-number, field-like, quot-parts-like, quot-made-like, rec-parts-like, made-like, by-rule-like, operands-like, outcome-like, unfolds-like}
