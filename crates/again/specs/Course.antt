@@ -209,7 +209,7 @@ module _ (ρ : ℕ → ℕ) (e ẽ : Env) where
   fails-renamed z (too-large h) = too-large h
   fails-renamed z (no-size f) = no-size λ g. f (fits-back ρ g)
 
-  within-renamed : {lim l̃im : Limits} {m m̃ : Tally} → SameRoom lim l̃im m m̃ → Within lim m → Within l̃im m̃
+  pub within-renamed : {lim l̃im : Limits} {m m̃ : Tally} → SameRoom lim l̃im m m̃ → Within lim m → Within l̃im m̃
   within-renamed z w =
       let p = z .steps in
       let q = z .rows in

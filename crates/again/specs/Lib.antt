@@ -4,6 +4,8 @@ pub mod Alike
 pub mod Tests
 pub mod Twins
 pub mod Embedding
+pub mod Renamed
 pub mod Course
+pub mod Simulation
 pub mod Keeps
 pub mod Again
