@@ -86,7 +86,7 @@ grown-embeds {s} {s′} f x = record {
 
 -- REDUCED AGAIN
 
--- against the first run, from s to m: no more steps, and no more rows written
+-- against the first run, from s to m: no more steps, and no more rows written. Not none: side reductions that led to no rule are made once more.
 pub record NoDearer (s : Store) (m to : Tally) : Type 0 where
   pub steps : to .steps ≤ m .steps
   pub rows : length (to .store) - length (m .store) ≤ length (m .store) - length s

@@ -9,3 +9,4 @@ pub mod Course
 pub mod Simulation
 pub mod Keeps
 pub mod Again
+pub mod OnCall
