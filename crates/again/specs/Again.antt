@@ -21,13 +21,13 @@ use Rattle.course.specs.Tries.{rules, missed, Runs, final, Comes}
 use Rattle.course.specs.ToTries.{to-runs}
 use Rattle.course.specs.FromTries.{HeadEnd, is-stuck, rules-end, from-comes}
 use Rattle.course.specs.Eval.{Res, ok, lost, eval}
-use Rattle.promises.specs.Stores.{ext-longer, later-runs, later-comes}
+use Rattle.promises.specs.Stores.{later-runs, later-comes}
 use Rattle.promises.specs.Says.{ResSays, r-ok, r-no, r-lost, says}
 use Rattle.promises.specs.Complete.{eval-complete-term}
 use Rattle.substitution.specs.Places.{ltb-below, ltb-from}
 use Rattle.substitution.specs.Stores.{FieldsOk, var-fields, node-fields, Formed, Good, fields-good, Ext, ext-length, ext-cell}
 use Rattle.again.specs.Embeds.{ren, renField, renRow, Embeds}
-use Rattle.again.specs.Carried.{spine-carried, as-ext}
+use Rattle.again.specs.Carried.{spine-carried}
 use Rattle.again.specs.Embedding.{embedding}
 use Rattle.again.specs.Course.{EnvCarried, try-carried}
 use Rattle.again.specs.Keeps.{EnvStands, env-itself, env-stands-later, LastTry, last-try}
@@ -103,7 +103,7 @@ pub record Again (e : Env) (d : ℕ) (s : Store) (m : Tally) (t : Ptr) : Type 0 
 module _ {e : Env} {d : ℕ} where
   from-last : {s : Store} {m : Tally} {t′ : Ptr} → EnvStands s e → LastTry e d (tally 0 s) m t′ → Again e d s m t′
   from-last {s} {m} {t′} v l =
-      let x : Ext (l .before .store) (m .store) = as-ext (λ n. n) (later-comes e (l .comes) .rows) in
+      let x : Ext (l .before .store) (m .store) = later-comes e (l .comes) .rows in
       let ρ : ℕ → ℕ = moved (length (l .before .store)) (length (x .new)) in
       let fixed = pointer-fixed ρ (length (l .before .store)) (stays _ _) in
       let i = grown-embeds (l .stands .formed) x in
@@ -115,7 +115,7 @@ module _ {e : Env} {d : ℕ} where
         arguments = map (ren ρ) (l .arguments);
         spine = subst (λ (p : Ptr). Spine (m .store) p [] (ren ρ (l .head)) (map (ren ρ) (l .arguments))) (fixed t′ (l .stands .good .lower)) (spine-carried ρ (l .spine) i);
         comes = k .comes;
-        cost = record { steps = let q = k .steps in omega arith; rows = let q = k .rows in let h = ext-longer (l .since .rows) in omega arith };
+        cost = record { steps = let q = k .steps in omega arith; rows = let q = k .rows in let h = ext-length (l .since .rows) in omega arith };
       }
 
   pub again : {s : Store} {m : Tally} {t t′ : Ptr} → Formed s → Good s t → EnvStands s e → Runs e d (tally 0 s) t m t′ → Again e d s m t′
@@ -152,7 +152,7 @@ answers-itself {e} {lim} {s = s} f o v r w =
     record {
       to = k .to;
       stuck = stuck-of (rules-end e (k .spine) (from-comes e (k .comes)));
-      within = within-again lim s w (ext-longer (later-runs e q .rows)) (k .cost);
+      within = within-again lim s w (ext-length (later-runs e q .rows)) (k .cost);
       cost = k .cost;
     }
 
@@ -188,6 +188,6 @@ eval-again {e} {lim} {n} {s} {m} {t} f o v h l q =
     record {
       to = k .to;
       evals = eval-complete-term e (room-again lim s (m .store)) (final (k .spine) (k .comes))
-          (within-again lim s (r .within) (ext-longer (later-runs e (r .runs) .rows)) (k .cost)) l;
+          (within-again lim s (r .within) (ext-length (later-runs e (r .runs) .rows)) (k .cost)) l;
       cost = k .cost;
     }

@@ -13,7 +13,6 @@ use Rattle.rules.specs.Firings.{Tally, tally, Result, opened, itself, a-number,
 use Rattle.rules.specs.Refusals.{Demand, step, fitting, row, level, Asks, its-step, its-number, its-row}
 use Rattle.substitution.specs.Stores.{Ext}
 use Rattle.promises.specs.Stores.{ext-due}
-use Rattle.promises.specs.Stores as P
 use Rattle.again.specs.Embeds.{ren, renField, renRow, renCell, Embeds, row-at, bound-at, up-at, put-embeds, end-renamed, written-carried, row-due-carried}
 
 module _ (ρ : ℕ → ℕ) where
@@ -201,9 +200,6 @@ module _ (ρ : ℕ → ℕ) where
   number-renamed (number-fits h) = number-fits h
   number-renamed constant-fits = constant-fits
 
-  pub as-ext : {s s′ : Store} → P.Ext s s′ → Ext s s′
-  as-ext x = record { new = x .new; after = x .after }
-
   -- TALLIES SIDE BY SIDE
 
   -- the stores are embedded, and the steps are as far apart as where one course started with a steps and the other with b
@@ -226,7 +222,7 @@ module _ (ρ : ℕ → ℕ) where
           due = d .result;
           is-due = d .holds;
           number-fits = number-renamed (q .number-fits);
-          written = written-carried ρ (v .embeds) (d .embeds) (as-ext (ext-due (d .holds))) (q .written);
+          written = written-carried ρ (v .embeds) (d .embeds) (ext-due (d .holds)) (q .written);
           then-tally = refl;
           then-term = sym (d .at) ∙ ap (ren ρ) (q .then-term);
         };
@@ -257,7 +253,7 @@ module _ (ρ : ℕ → ℕ) where
       }
   asks-carried {a} {b} {m̃ = m̃} (its-row f q x e) v =
       let d = due-carried q (v .embeds) in
-      let y = row-due-carried ρ (v .embeds) (d .embeds) (as-ext (ext-due (d .holds))) x in
+      let y = row-due-carried ρ (v .embeds) (d .embeds) (ext-due (d .holds)) x in
       let to : Tally = tally (suc (m̃ .steps)) (y .then) in
       record {
         to = to;

@@ -10,9 +10,10 @@ use Rattle.rules.specs.Declarations.{Env}
 use Rattle.rules.specs.Firings.{Tally, tally, Result}
 use Rattle.rules.specs.Refusals.{Demand, Limits, Within, Fails, no-step, no-free-row, no-level, too-large, no-size}
 use Rattle.course.specs.Tries.{Try, fires, rules, End, missed, firing, Runs, final, then, Comes, misses, fires-now, wrote, side, RunMeets, trying, paying, later, TryMeets, writing, after-writing, too-deep, within, after-side}
-use Rattle.promises.specs.Stores.{Later, later-trans, ext-longer, later-runs, later-comes, later-pays, later-run-meets}
+use Rattle.substitution.specs.Stores.{ext-length}
+use Rattle.promises.specs.Stores.{Later, later-trans, later-runs, later-comes, later-pays, later-run-meets}
 use Rattle.again.specs.Embeds.{ren, Embeds, as-many, fits-renamed, fits-back, written-carried, row-due-carried}
-use Rattle.again.specs.Carried.{renResult, renDemand, spine-carried, as-ext, Beside, pays-carried, asks-carried}
+use Rattle.again.specs.Carried.{renResult, renDemand, spine-carried, Beside, pays-carried, asks-carried}
 use Rattle.again.specs.Alike.{Grown, rows-grown, EnvLike, env-later}
 use Rattle.again.specs.Twins.{Twin, no-rules, both-fire, both-write, both-reduce, rules-twin, head-row}
 use Rattle.again.specs.Embedding.{embedding, each-is, each-renamed, result-is, head-alike}
@@ -27,7 +28,7 @@ module _ (ρ : ℕ → ℕ) (e ẽ : Env) where
   renEnd (firing r xs) = firing (renResult ρ r) (map (ren ρ) xs)
 
   grown : {m m̃ m₁ m̃₁ : Tally} → Later m m₁ → Later m̃ m̃₁ → Embeds ρ (m₁ .store) (m̃₁ .store) → Grown (Embeds ρ) (m .store) (m̃ .store) (m₁ .store) (m̃₁ .store)
-  grown l r i = record { left = as-ext ρ (l .rows); right = as-ext ρ (r .rows); alike = i }
+  grown l r i = record { left = l .rows; right = r .rows; alike = i }
 
   -- the rules at a head and at its copy
   twins-at : {s s̃ : Store} → Embeds ρ s s̃ → EnvCarried s s̃ → (h : Ptr) (xs : List Ptr) → Twin (embedding ρ) s s̃ (rules e s h xs) (rules ẽ s̃ (ren ρ h) (map (ren ρ) xs))
@@ -153,7 +154,7 @@ module _ (ρ : ℕ → ℕ) (e ẽ : Env) where
         runs = k .runs;
         embeds = k .beside .embeds;
         steps = let q = k .beside .steps in omega arith;
-        rows = as-many ρ i (k .beside .embeds) (ext-longer (later-runs e r .rows));
+        rows = as-many ρ i (k .beside .embeds) (ext-length (later-runs e r .rows));
       }
 
   -- the same of one try at the head
@@ -173,7 +174,7 @@ module _ (ρ : ℕ → ℕ) (e ẽ : Env) where
         comes = k .comes;
         embeds = k .beside .embeds;
         steps = let q = k .beside .steps in omega arith;
-        rows = as-many ρ i (k .beside .embeds) (ext-longer (later-comes e c .rows));
+        rows = as-many ρ i (k .beside .embeds) (ext-length (later-comes e c .rows));
       }
 
   -- the same demand, at corresponding tallies
@@ -193,7 +194,7 @@ module _ (ρ : ℕ → ℕ) (e ẽ : Env) where
         meets = k .meets;
         embeds = k .beside .embeds;
         steps = let q = k .beside .steps in omega arith;
-        rows = as-many ρ i (k .beside .embeds) (ext-longer (later-run-meets e x .rows));
+        rows = as-many ρ i (k .beside .embeds) (ext-length (later-run-meets e x .rows));
       }
 
   -- THE SAME REFUSAL: with as many steps and rows left on both sides
