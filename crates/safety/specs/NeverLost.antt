@@ -88,17 +88,20 @@ module _ (v : Option Ptr) (k : ℕ) where
   data Grown (s : Store) : Option Got → Type 0 where
     grown : {g : Got} → Ext s (g .store) → Formed (g .store) → Grown s (some g)
 
-  replaced-grown : {c : ℕ} {s : Store} {p : Ptr} {o : Option Got} → Formed s → Good s p → ValueGood s v → Found o → All (Replaces v k c s p) o → Grown s o
+  replaced-grown : {c : ℕ} {s : Store} {p : Ptr} {o : Option Got} →
+      Formed s → Good s p → ValueGood s v → Found o → All (Replaces v k c s p) o → Grown s o
   replaced-grown d o x found (just r) = let q = replace-keeps d o x r in grown (q .more) (q .formed)
 
-  grown-then : {s : Store} {o : Option Got} {next : Got → Option Got} → Grown s o → ((g : Got) → Ext s (g .store) → Formed (g .store) → Found (next g)) → Found (given o next)
+  grown-then : {s : Store} {o : Option Got} {next : Got → Option Got} →
+      Grown s o → ((g : Got) → Ext s (g .store) → Formed (g .store) → Found (next g)) → Found (given o next)
   grown-then (grown x d) h = h _ x d
 
   module _ (n : ℕ) (ready : Reaches n) where
     abbrev by : ℕ → Store → Ptr → Option Got
     by c s p = replaceBy v k n c s p
 
-    field-grown : {s : Store} {p : Ptr} {τ : Tag} (c : ℕ) → Formed s → FieldOk s (length s) p τ → ValueGood s v → fieldHeight s τ p ≤ n → Grown s (onField v k by τ c s p)
+    field-grown : {s : Store} {p : Ptr} {τ : Tag} (c : ℕ) →
+        Formed s → FieldOk s (length s) p τ → ValueGood s v → fieldHeight s τ p ≤ n → Grown s (onField v k by τ c s p)
     unfolding fieldHeight
     field-grown {s} c d (plain-ok o) x l = grown (ext-same s) d
     field-grown {s} {p} c d (term-ok o) x l = replaced-grown d o x (ready .at c s p d o x l) (replace-says v k n c s p)
@@ -109,7 +112,8 @@ module _ (v : Option Ptr) (k : ℕ) where
         Grown s′ (onField v k by τ c s′ p)
     later-grown c e d o x l = field-grown c d (ext-good-field e o) (value-good-later e x) (omega (arith, l, ext-field-height e (le-refl _) o))
 
-    row-found : {s : Store} {w : Row} (c r : ℕ) → Formed s → FieldsOk s (length s) w → ValueGood s v → cell s w .height ≤ suc n → Found (onRow v k by c s r w)
+    row-found : {s : Store} {w : Row} (c r : ℕ) →
+        Formed s → FieldsOk s (length s) w → ValueGood s v → cell s w .height ≤ suc n → Found (onRow v k by c s r w)
     unfolding onRow cell
     row-found c r d var-fields x l = found
     row-found c r d (node-fields a b z) x l =
@@ -123,7 +127,8 @@ module _ (v : Option Ptr) (k : ℕ) where
     pointer-found c s p d o x l (at-most h) b = found
     pointer-found c s p d o x l (over h) (at-most q) = found
     pointer-found c s p d o x l (over h) (over q) =
-        then-found (λ g. got (g .store) (up (g .store) (g .at) (p .shift))) (row-found (c - p .shift) (p .row) d (good-fields d o) x (omega (arith, l, height-at d o)))
+        then-found (λ g. got (g .store) (up (g .store) (g .at) (p .shift)))
+        (row-found (c - p .shift) (p .row) d (good-fields d o) x (omega (arith, l, height-at d o)))
 
   reaches : (n : ℕ) → Reaches n
   unfolding replaceBy

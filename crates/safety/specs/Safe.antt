@@ -28,12 +28,14 @@ pub data Safe (D d : ℕ) : Store → Try → Type 0 where
       ((s′ : Store) (w : Row) (ys : List Ptr) → Ext s s′ → AllPass D s′ → Worded D w → AllIn s′ d ys → Safe D d s′ (y s′ w ys)) →
       Safe D d s (reduces p y)
 
-safe-with : {A : Type 0} {D d : ℕ} {s : Store} (o : Option A) (next : A → Try) → ((a : A) → o ≡ some a → Safe D d s (next a)) → Safe D d s (with-it o next)
+safe-with : {A : Type 0} {D d : ℕ} {s : Store} (o : Option A) (next : A → Try) →
+    ((a : A) → o ≡ some a → Safe D d s (next a)) → Safe D d s (with-it o next)
 safe-with none next k = safe-none
 safe-with (some a) next k = k a refl
 
 -- the next rule is tried from whatever store the first left
-safe-else : {D d : ℕ} {s : Store} {y : Try} (z : Try) → AllPass D s → Safe D d s y → ((s′ : Store) → Ext s s′ → AllPass D s′ → Safe D d s′ z) → Safe D d s (y or-else z)
+safe-else : {D d : ℕ} {s : Store} {y : Try} (z : Try) →
+    AllPass D s → Safe D d s y → ((s′ : Store) → Ext s s′ → AllPass D s′ → Safe D d s′ z) → Safe D d s (y or-else z)
 unfolding _or-else_
 safe-else {s = s} z a safe-none k = k s (ext-same s) a
 safe-else z a (safe-fires r h) k = safe-fires r h

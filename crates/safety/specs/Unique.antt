@@ -40,7 +40,8 @@ module _ {A : Type 0} {k : ℕ} {ws : List ℕ} {Is : List ℕ → A → Type 0}
       on z =
           let x = z .at in
           let here : nth xs j ≡ some x = subst (λ (ys : List A). nth ys j ≡ some x) (z .whole) (nth-seam (l .lower) x (z .rest) j (l .keep .many)) in
-          let upto : Ok ((l .lower ++ (x ∷ [])) ++ z .rest) j = subst (λ (ys : List A). Ok ys j) (sym (append-assoc (l .lower) (x ∷ []) (z .rest) ∙ z .whole)) (a .rules j h) in
+          let whole = append-assoc (l .lower) (x ∷ []) (z .rest) ∙ z .whole in
+          let upto : Ok ((l .lower ++ (x ∷ [])) ++ z .rest) j = subst (λ (ys : List A). Ok ys j) (sym whole) (a .rules j h) in
           l .breaks x (a .words j x here) (r .first (l .lower ++ (x ∷ [])) (z .rest) j (omega (arith, length-append (l .lower) (x ∷ []), l .keep .many)) upto)
 
   pub lowest-same : {n n′ i j : ℕ} → Lowest k ws Is Ok n i → Lowest k ws Is Ok n′ j → i ≡ j
