@@ -96,7 +96,8 @@ rowOkAt D s n (node κ x y z) =
     some (node-ok r a b c)
 
 -- a cell is known by its row, bound and height
-pub exact-cell : (s : Store) (n : ℕ) → cellAt s n .bound ≡ cell s (rowAt s n) .bound → cellAt s n .height ≡ cell s (rowAt s n) .height → cellAt s n ≡ cell s (rowAt s n)
+pub exact-cell : (s : Store) (n : ℕ) →
+    cellAt s n .bound ≡ cell s (rowAt s n) .bound → cellAt s n .height ≡ cell s (rowAt s n) .height → cellAt s n ≡ cell s (rowAt s n)
 exact-cell s n b h = λ i. record { row = sym (cell-row s (rowAt s n)) i; bound = b i; height = h i }
 
 unfoldable pub passesAt : (D : ℕ) (s : Store) (n : ℕ) → Option (Passes D s n)
@@ -204,7 +205,8 @@ EntryIn s n x = ValueIs (InScope s n) (x .value)
 
 -- THE WHOLE
 
-pub all-ready : (e : Env) (lim : Limits) (s : Store) (t : Ptr) → ((n : ℕ) → n < length s → Passes (declCount e) s n) → Each (λ n x. DeclIn s x) 0 (e .decls) →
+pub all-ready : (e : Env) (lim : Limits) (s : Store) (t : Ptr) →
+    ((n : ℕ) → n < length s → Passes (declCount e) s n) → Each (λ n x. DeclIn s x) 0 (e .decls) →
     Each (EntryIn s) 0 (e .context) → InScope s (depthOf e) t → length s ≤ lim .rows → Ready e lim s t
 unfolding declAt
 all-ready e lim s t rows ds xs i l = record {

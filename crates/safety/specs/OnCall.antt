@@ -81,7 +81,8 @@ refuses-same r z r′ z′ = record { answer = ap (λ (n : ℕ). refused n 0) (r
 
 answers-alike : {w : Lent} {e : Env} {s s₁ s₂ : Store} {t₁ t₂ : Ptr} {k₁ k₂ n₁ n₂ : ℕ} {l l′ : Left} →
     Answered e (limitsOf w) (w .nesting) s (w .term) t₁ k₁ s₁ → length s₁ - length s ≡ n₁ → Grown w s s₁ l →
-    Answered e (limitsOf w) (w .nesting) s (w .term) t₂ k₂ s₂ → length s₂ - length s ≡ n₂ → Grown w s s₂ l′ → SameResult (term t₁ k₁ n₁) (term t₂ k₂ n₂) l l′
+    Answered e (limitsOf w) (w .nesting) s (w .term) t₂ k₂ s₂ → length s₂ - length s ≡ n₂ → Grown w s s₂ l′ →
+    SameResult (term t₁ k₁ n₁) (term t₂ k₂ n₂) l l′
 answers-alike {w} {s = s} {l′ = l′} a q g a′ q′ g′ =
     let z = answers-same a a′ in
     let rows = sym q ∙ ap (λ (x : Store). length x - length s) (z .store) ∙ q′ in

@@ -29,7 +29,8 @@ declCount e = length (e .decls)
 pub record Sane (e : Env) (s : Store) : Type 0 where
   pub pass : AllPass (declCount e) s
   pub value : (d : ℕ) (v : Ptr) → declAt (e .decls) d .value ≡ some v → Closed s (length s) v
-  pub rule : (d : ℕ) (o : Recursor) (i : ℕ) (ρ : Rule) → declAt (e .decls) d .form ≡ recursor o → nth (o .rules) i ≡ some ρ → Closed s (length s) (ρ .value)
+  pub rule : (d : ℕ) (o : Recursor) (i : ℕ) (ρ : Rule) →
+      declAt (e .decls) d .form ≡ recursor o → nth (o .rules) i ≡ some ρ → Closed s (length s) (ρ .value)
   pub context : (i : ℕ) (v : Ptr) → valueOf e i ≡ some v → InScope s (depthOf e - suc i) v
 
 -- a term in scope is asked over a sane store that the limits allow
@@ -77,7 +78,8 @@ unfolding holderFrom
 holder-from n r [] q = absurd (none-some q)
 holder-from n r (x ∷ ds) {d} q = on (eqb (roleCode (x .role)) (roleCode r)) q (λ q′. holder-from (suc n) r ds q′)
   where
-    on : (b : Bool) → holderOn b (some n) (holderFrom (suc n) r ds) ≡ some d → (holderFrom (suc n) r ds ≡ some d → d < suc n + length ds) → d < n + length (x ∷ ds)
+    on : (b : Bool) →
+        holderOn b (some n) (holderFrom (suc n) r ds) ≡ some d → (holderFrom (suc n) r ds ≡ some d → d < suc n + length ds) → d < n + length (x ∷ ds)
     on true q′ ih = omega (arith, some-same q′)
     on false q′ ih = omega (arith, ih q′)
 
@@ -129,7 +131,8 @@ module _ (e : Env) (s : Store) (decls : (j : ℕ) → j < declCount e → DeclIn
 
 -- ACCEPTED INPUT
 
-rule-closed : {words : List ℕ} {s : Store} {L : ℕ} {φ : Form} {o : Recursor} → FormOk words s L φ → φ ≡ recursor o → (i : ℕ) (ρ : Rule) → nth (o .rules) i ≡ some ρ → Closed s L (ρ .value)
+rule-closed : {words : List ℕ} {s : Store} {L : ℕ} {φ : Form} {o : Recursor} →
+    FormOk words s L φ → φ ≡ recursor o → (i : ℕ) (ρ : Rule) → nth (o .rules) i ≡ some ρ → Closed s L (ρ .value)
 rule-closed {words} {s} {L} {o = o} f q = on (subst (FormOk words s L) q f)
   where
     on : FormOk words s L (recursor o) → (i : ℕ) (ρ : Rule) → nth (o .rules) i ≡ some ρ → Closed s L (ρ .value)

@@ -13,7 +13,8 @@ use Rattle.rules.specs.Kinds.{Tag}
 use Rattle.rules.specs.Declarations.{Decl, Entry, Env, nth, declAt}
 use Rattle.rules.specs.Accepted.{Lent, IsRow, IsDecl, IsEntry, DeclOk, EntryOk, Keep, Lowest, libraryRows, rowWords, declarationCount, RowsKept, DeclarationsKept, RecordsKept, Accepted, NotAccepted, no-sizes, a-row, a-declaration, a-record, the-term}
 use Rattle.substitution.specs.Places.{Place, below, here, past, place}
-use Rattle.substitution.specs.Stores.{FieldsOk, var-fields, node-fields, Ext, ext-cell, ext-new-cell}
+use Rattle.substitution.specs.Stores.{Ext, ext-cell, ext-new-cell}
+use Rattle.substitution.specs.Passing.{row-fields}
 use Rattle.safety.specs.Lists.{nth-ext, nth-seam, nth-append, Splits, splits}
 use Rattle.safety.specs.Words.{row-same, decl-same, entry-same}
 
@@ -40,7 +41,8 @@ module _ {A : Type 0} {k : ℕ} {ws : List ℕ} {Is : List ℕ → A → Type 0}
       on z =
           let x = z .at in
           let here : nth xs j ≡ some x = subst (λ (ys : List A). nth ys j ≡ some x) (z .whole) (nth-seam (l .lower) x (z .rest) j (l .keep .many)) in
-          let upto : Ok ((l .lower ++ (x ∷ [])) ++ z .rest) j = subst (λ (ys : List A). Ok ys j) (sym (append-assoc (l .lower) (x ∷ []) (z .rest) ∙ z .whole)) (a .rules j h) in
+          let whole = append-assoc (l .lower) (x ∷ []) (z .rest) ∙ z .whole in
+          let upto : Ok ((l .lower ++ (x ∷ [])) ++ z .rest) j = subst (λ (ys : List A). Ok ys j) (sym whole) (a .rules j h) in
           l .breaks x (a .words j x here) (r .first (l .lower ++ (x ∷ [])) (z .rest) j (omega (arith, length-append (l .lower) (x ∷ []), l .keep .many)) upto)
 
   pub lowest-same : {n n′ i j : ℕ} → Lowest k ws Is Ok n i → Lowest k ws Is Ok n′ j → i ≡ j
@@ -68,10 +70,6 @@ row-first : {D : ℕ} {s s′ : Store} {n : ℕ} {w : Row} → Ext s s′ → n 
 row-first e h (var-ok l) = var-ok l
 row-first e h (node-ok r a b c) = node-ok r (field-first e h a) (field-first e h b) (field-first e h c)
 
-fields-of : {D : ℕ} {s : Store} {n : ℕ} {w : Row} → RowOk D s n w → FieldsOk s n w
-fields-of (var-ok l) = var-fields
-fields-of (node-ok r a b c) = node-fields a b c
-
 passes-first : (D : ℕ) (s more : Store) (n : ℕ) → n < length s → Passes D (s ++ more) n → Passes D s n
 passes-first D s more n h p =
     let e : Ext s (s ++ more) = record { new = more; after = refl } in
@@ -79,7 +77,7 @@ passes-first D s more n h p =
     let ok : RowOk D s n (rowAt s n) = row-first e (omega arith) (subst (λ (c : Cell). RowOk D (s ++ more) n (c .row)) same (p .fields)) in
     record {
       fields = ok;
-      exact = sym same ∙ p .exact ∙ ap (λ (c : Cell). cell (s ++ more) (c .row)) same ∙ ext-new-cell e (omega arith) (fields-of ok);
+      exact = sym same ∙ p .exact ∙ ap (λ (c : Cell). cell (s ++ more) (c .row)) same ∙ ext-new-cell e (omega arith) (row-fields ok);
       fits = subst Fits same (p .fits);
     }
 

@@ -25,7 +25,8 @@ row-same proj-row proj-row = refl
 row-same (num-row {b = b} {h = h} l q) (num-row l′ q′) = ap (λ (n : ℕ). recorded (leaf (num n)) b h) (sym q ∙ q′)
 
 -- two words below and above 2^32 are a number's in one way
-number-words : {low low′ high high′ n : ℕ} → low < 4294967296 → low′ < 4294967296 → wordsValue low high ≡ n → wordsValue low′ high′ ≡ n → (low ≡ low′) × (high ≡ high′)
+number-words : {low low′ high high′ n : ℕ} →
+    low < 4294967296 → low′ < 4294967296 → wordsValue low high ≡ n → wordsValue low′ high′ ≡ n → (low ≡ low′) × (high ≡ high′)
 number-words l l′ q q′ = (omega arith, omega arith)
 
 pub row-words-same : {ws ws′ : List ℕ} {c : Cell} → IsRow ws c → IsRow ws′ c → ws ≡ ws′
@@ -60,9 +61,11 @@ value-same : {flag v u : ℕ} {o o′ : Option Ptr} → IsValue flag v u o → I
 value-same absent absent = refl
 value-same present present = refl
 
--- codes are read back through a list, so that no two roles are compared
+-- codes are read back through a list: comparing the roles two by two would take over two hundred cases
 codes : List Role
-codes = no-role ∷ nat ∷ zero′ ∷ succ′ ∷ true′ ∷ false′ ∷ quot-mk ∷ quot-lift ∷ quot-ind ∷ operation add ∷ operation sub ∷ operation mul ∷ operation div ∷ operation mod′ ∷ operation beq ∷ operation ble ∷ []
+codes =
+    no-role ∷ nat ∷ zero′ ∷ succ′ ∷ true′ ∷ false′ ∷ quot-mk ∷ quot-lift ∷ quot-ind ∷
+    operation add ∷ operation sub ∷ operation mul ∷ operation div ∷ operation mod′ ∷ operation beq ∷ operation ble ∷ []
 
 op-read : (o : Op) → getD codes (opCode o) no-role ≡ operation o
 unfolding codes
