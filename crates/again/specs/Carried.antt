@@ -16,6 +16,10 @@ use Rattle.promises.specs.Stores.{ext-due}
 use Rattle.promises.specs.Stores as P
 use Rattle.again.specs.Embeds.{ren, renField, renRow, renCell, Embeds, row-at, bound-at, up-at, put-embeds, end-renamed, written-carried, row-due-carried}
 
+-- stores grown, in the words of either crate
+pub as-ext : {s s′ : Store} → P.Ext s s′ → Ext s s′
+as-ext x = record { new = x .new; after = x .after }
+
 module _ (ρ : ℕ → ℕ) where
   -- what is got on one side is got by R on the other, its pointer renamed by f
   pub record Carried (f : Ptr → Ptr) (g : Got) (R : Got → Type 0) : Type 0 where
@@ -200,9 +204,6 @@ module _ (ρ : ℕ → ℕ) where
   number-renamed itself-fits = itself-fits
   number-renamed (number-fits h) = number-fits h
   number-renamed constant-fits = constant-fits
-
-  pub as-ext : {s s′ : Store} → P.Ext s s′ → Ext s s′
-  as-ext x = record { new = x .new; after = x .after }
 
   -- TALLIES SIDE BY SIDE
 

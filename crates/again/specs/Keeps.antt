@@ -153,7 +153,7 @@ fired-stands : {m m′ : Tally} {r : Result} {xs : List Ptr} {t′ : Ptr} → En
 fired-stands (a-firing z q) f p = pays-stand z q f p
 
 good-later : {m m₁ : Tally} {p : Ptr} → Later m m₁ → Good (m .store) p → Good (m₁ .store) p
-good-later l o = ext-good (as-ext (λ n. n) (l .rows)) o
+good-later l o = ext-good (as-ext (l .rows)) o
 
 pub env-stands-later : {m m₁ : Tally} {e : Env} → Later m m₁ → EnvStands (m .store) e → EnvStands (m₁ .store) e
 env-stands-later l v = record {
@@ -189,7 +189,7 @@ module _ (e : Env) where
         let l = later-runs e r in
         let p = spine-stands (j .formed) (j .good) s in
         comes-stand c (j .formed) (env-stands-later l v)
-        (k _ s̃ (record { left = as-ext (λ n. n) (l .rows); right = ext-same s̃; alike = j .formed }) _ _ _ _ (head-row standing (p .head)) (p .arguments))
+        (k _ s̃ (record { before = f; left = as-ext (l .rows); right = ext-same s̃; alike = j .formed }) _ _ _ _ (head-row standing (p .head)) (p .arguments))
 
   -- THE LAST TRY: a run ends by a try that is missed, at a formed store and a good term
   pub record LastTry (d : ℕ) (m m′ : Tally) (t′ : Ptr) : Type 0 where
