@@ -11,9 +11,9 @@ use Rattle.rules.specs.Spines.{Spine}
 use Rattle.rules.specs.Firings.{Tally, tally, Result}
 use Rattle.rules.specs.Refusals.{Demand, Limits, Within, Fails, no-step, no-free-row, no-level, too-large, no-size}
 use Rattle.course.specs.Tries.{Try, fires, reduces, rules, End, missed, firing, Runs, final, then, Comes, misses, fires-now, wrote, side, RunMeets, trying, paying, later, TryMeets, writing, after-writing, too-deep, within, after-side}
-use Rattle.promises.specs.Stores.{Later, later-trans, ext-longer, later-runs, later-comes, later-pays, later-run-meets}
+use Rattle.promises.specs.Stores.{Later, ext-longer, later-runs, later-comes, later-run-meets}
 use Rattle.again.specs.Embeds.{ren, Embeds, as-many, fits-renamed, fits-back, written-carried, row-due-carried}
-use Rattle.again.specs.Carried.{renResult, renDemand, spine-carried, as-ext, Beside, pays-carried, asks-carried}
+use Rattle.again.specs.Carried.{as-ext, later-fired, renResult, renDemand, spine-carried, Beside, pays-carried, asks-carried}
 use Rattle.again.specs.Alike.{Grown, rows-grown, EnvLike, env-later}
 use Rattle.again.specs.Twins.{Twin, no-rules, both-fire, both-write, both-reduce, rules-twin, head-row}
 use Rattle.again.specs.Embedding.{embedding, each-is, each-renamed, result-is, head-alike}
@@ -31,6 +31,11 @@ module _ (ρ : ℕ → ℕ) (e ẽ : Env) where
       Grown (Embeds ρ) (m .store) (m̃ .store) (m₁ .store) (m̃₁ .store)
   grown b l r i = record { before = b; left = as-ext (l .rows); right = as-ext (r .rows); alike = i }
 
+  -- the environments stay alike
+  env-on : {m m̃ m₁ m̃₁ : Tally} → Embeds ρ (m .store) (m̃ .store) → EnvCarried (m .store) (m̃ .store) → Later m m₁ → Later m̃ m̃₁ →
+      Embeds ρ (m₁ .store) (m̃₁ .store) → EnvCarried (m₁ .store) (m̃₁ .store)
+  env-on b w l r i = env-later (embedding ρ) (grown b l r i) w
+
   -- the rules at a head and at its copy
   twins-at : {s s̃ : Store} → Embeds ρ s s̃ → EnvCarried s s̃ → (h : Ptr) (xs : List Ptr) → Twin (embedding ρ) s s̃ (rules e s h xs) (rules ẽ s̃ (ren ρ h) (map (ren ρ) xs))
   twins-at i v h xs = rules-twin (embedding ρ) h (ren ρ h) i v (head-alike ρ i h) (each-renamed ρ xs)
@@ -39,6 +44,7 @@ module _ (ρ : ℕ → ℕ) (e ẽ : Env) where
       Comes ẽ d m̃ (fires r̃ x̃s) m̃ (firing (renResult ρ r) (map (ren ρ) xs))
   fires-renamed {d} {m̃} r xs p q = subst (λ (y : Try). Comes ẽ d m̃ y m̃ (firing (renResult ρ r) (map (ren ρ) xs))) (λ i. fires (p i) (q i)) fires-now
 
+  -- ONE STEP AT A TIME: a and b are the steps that the two courses started with
   module _ (a b : ℕ) where
     record RunsTo (d : ℕ) (m̃ : Tally) (t : Ptr) (m′ : Tally) (t′ : Ptr) : Type 0 where
       to : Tally
@@ -68,8 +74,8 @@ module _ (ρ : ℕ → ℕ) (e ẽ : Env) where
       run-on (then {h = h} {xs = xs} s c p r) v w =
           let d = come-on c v w (twins-at (v .embeds) w h xs) in
           let q = pays-carried ρ p (d .beside) in
-          let g = grown (v .embeds) (later-trans (later-comes e c) (later-pays p)) (later-trans (later-comes ẽ (d .comes)) (later-pays (q .pays))) (q .beside .embeds) in
-          let k = run-on r (q .beside) (env-later (embedding ρ) g w) in
+          let u = env-on (v .embeds) w (later-fired e c p) (later-fired ẽ (d .comes) (q .pays)) (q .beside .embeds) in
+          let k = run-on r (q .beside) u in
           record { to = k .to; runs = then (spine-carried ρ s (v .embeds)) (d .comes) (q .pays) (k .runs); beside = k .beside }
 
       come-on : {d : ℕ} {m m̃ m′ : Tally} {y ỹ : Try} {o : End} → Comes e d m y m′ o → Beside ρ a b m m̃ → EnvCarried (m .store) (m̃ .store) →
@@ -118,8 +124,8 @@ module _ (ρ : ℕ → ℕ) (e ẽ : Env) where
       meet-on (later {h = h} {xs = xs} s c p x) v w =
           let d = come-on c v w (twins-at (v .embeds) w h xs) in
           let q = pays-carried ρ p (d .beside) in
-          let g = grown (v .embeds) (later-trans (later-comes e c) (later-pays p)) (later-trans (later-comes ẽ (d .comes)) (later-pays (q .pays))) (q .beside .embeds) in
-          let k = meet-on x (q .beside) (env-later (embedding ρ) g w) in
+          let u = env-on (v .embeds) w (later-fired e c p) (later-fired ẽ (d .comes) (q .pays)) (q .beside .embeds) in
+          let k = meet-on x (q .beside) u in
           record { to = k .to; meets = later (spine-carried ρ s (v .embeds)) (d .comes) (q .pays) (k .meets); beside = k .beside }
 
       try-on : {d : ℕ} {m m̃ m₁ : Tally} {y ỹ : Try} {c : Demand} → TryMeets e d m y c m₁ → Beside ρ a b m m̃ → EnvCarried (m .store) (m̃ .store) →
