@@ -103,7 +103,7 @@ pub record Again (e : Env) (d : ℕ) (s : Store) (m : Tally) (t : Ptr) : Type 0 
 module _ {e : Env} {d : ℕ} where
   from-last : {s : Store} {m : Tally} {t′ : Ptr} → EnvStands s e → LastTry e d (tally 0 s) m t′ → Again e d s m t′
   from-last {s} {m} {t′} v l =
-      let x : Ext (l .before .store) (m .store) = later-comes e (l .comes) .rows in
+      let x : Ext (l .before .store) (m .store) = (later-comes e (l .comes) .rows) in
       let ρ : ℕ → ℕ = moved (length (l .before .store)) (length (x .new)) in
       let fixed = pointer-fixed ρ (length (l .before .store)) (stays _ _) in
       let i = grown-embeds (l .stands .formed) x in

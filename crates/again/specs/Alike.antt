@@ -79,8 +79,9 @@ same-given {A} {Q = Q} {x = x} f g e k = subst (λ (y : Option A). Opt Q (given 
 
 -- A LIKENESS
 
--- both stores grown, and alike again
+-- both stores alike, grown, and alike again
 pub record Grown (S : Store → Store → Type 0) (s s̃ s₁ s̃₁ : Store) : Type 0 where
+  pub before : S s s̃
   pub left : Ext s s₁
   pub right : Ext s̃ s̃₁
   pub alike : S s₁ s̃₁
@@ -104,13 +105,10 @@ pub record Likeness : Type 1 where
 
 module _ (L : Likeness) where
   pub grown-same : {s s̃ : Store} → L .stores s s̃ → Grown (L .stores) s s̃ s s̃
-  grown-same {s} {s̃} a = record { left = ext-same s; right = ext-same s̃; alike = a }
+  grown-same {s} {s̃} a = record { before = a; left = ext-same s; right = ext-same s̃; alike = a }
 
   pub grown-then : {s s̃ s₁ s̃₁ s₂ s̃₂ : Store} → Grown (L .stores) s s̃ s₁ s̃₁ → Grown (L .stores) s₁ s̃₁ s₂ s̃₂ → Grown (L .stores) s s̃ s₂ s̃₂
-  grown-then g h = record { left = ext-then (g .left) (h .left); right = ext-then (g .right) (h .right); alike = h .alike }
-
-  abbrev pub Pointers : Store → Store → List Ptr → List Ptr → Type 0
-  Pointers s s̃ = Each (L .pointers s s̃)
+  grown-then g h = record { before = g .before; left = ext-then (g .left) (h .left); right = ext-then (g .right) (h .right); alike = h .alike }
 
   pub pointers-later : {s s̃ s₁ s̃₁ : Store} {xs ys : List Ptr} → Grown (L .stores) s s̃ s₁ s̃₁ → Each (L .pointers s s̃) xs ys → Each (L .pointers s₁ s̃₁) xs ys
   pointers-later g q = each-later (λ a b r. L .later g r) q
@@ -122,7 +120,7 @@ module _ (L : Likeness) where
         NewRow (L .pointers) s s̃ w w̃ → RowsLike (put s w .store) (put s̃ w̃ .store) ws w̃s → RowsLike s s̃ (w ∷ ws) (w̃ ∷ w̃s)
 
   pub put-grown : {s s̃ : Store} {w w̃ : Row} → L .stores s s̃ → NewRow (L .pointers) s s̃ w w̃ → Grown (L .stores) s s̃ (put s w .store) (put s̃ w̃ .store)
-  put-grown {s} {s̃} a n = record { left = ext-put s _; right = ext-put s̃ _; alike = L .written a n }
+  put-grown {s} {s̃} a n = record { before = a; left = ext-put s _; right = ext-put s̃ _; alike = L .written a n }
 
   pub rows-grown : {s s̃ : Store} {ws w̃s : List Row} → L .stores s s̃ → RowsLike s s̃ ws w̃s → Grown (L .stores) s s̃ (grow s ws) (grow s̃ w̃s)
   unfolding grow

@@ -7,13 +7,19 @@ use mathlib.Core.List.{List, [], _∷_, map}
 use mathlib.Core.Option.{Option, none, some}
 use Rattle.rules.specs.Kinds.{Kind, app, const, num, Tag, table, fields}
 use Rattle.rules.specs.Rows.{Ptr, ptr, blank, Row, var, node, leaf, Store, up, Got, got, put}
+use Rattle.rules.specs.Declarations.{Env}
 use Rattle.rules.specs.Replacement.{count, Replaces, same, moved, inside, OnRow, stays, value, moves, children, OnField, word, child, under}
 use Rattle.rules.specs.Spines.{NoApp, no-var, no-sort, no-const, no-lam, no-pi, no-let, no-proj, no-num, Spine, head, through, joined}
 use Rattle.rules.specs.Firings.{Tally, tally, Result, opened, itself, a-number, a-constant, Gives, by-replacement, no-row, number-row, constant-row, Due, NumberFits, opened-fits, itself-fits, number-fits, constant-fits, Pays}
 use Rattle.rules.specs.Refusals.{Demand, step, fitting, row, level, Asks, its-step, its-number, its-row}
 use Rattle.substitution.specs.Stores.{Ext}
-use Rattle.promises.specs.Stores.{ext-due}
+use Rattle.course.specs.Tries.{Try, End, Comes}
+use Rattle.promises.specs.Stores.{ext-due, Later, later-trans, later-comes, later-pays}
 use Rattle.again.specs.Embeds.{ren, renField, renRow, renCell, Embeds, row-at, bound-at, up-at, put-embeds, end-renamed, written-carried, row-due-carried}
+
+-- from a try to the tally after its firing
+pub later-fired : (e : Env) {d : ℕ} {m m₁ m₂ : Tally} {y : Try} {o : End} {r : Result} {xs : List Ptr} {t : Ptr} → Comes e d m y m₁ o → Pays m₁ r xs m₂ t → Later m m₂
+later-fired e c p = later-trans (later-comes e c) (later-pays p)
 
 module _ (ρ : ℕ → ℕ) where
   -- what is got on one side is got by R on the other, its pointer renamed by f

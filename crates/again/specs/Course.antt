@@ -1,19 +1,20 @@
 -- The simulation: an embedding of stores carries a course to a course. On the other side the course takes as many steps, writes as many rows, goes as
 -- deep, ends in the same term renamed, and meets the same demands. Assumes nothing but the embedding and environments that are alike under it.
-use Prim.Native.Nat.{ℕ, _+_}
+use Prim.Native.Nat.{ℕ, suc, _+_}
 use native.Mathlib.Omega.{arith}
 use mathlib.Core.Path.{_≡_, refl, subst}
-use mathlib.Core.List.{List, map}
+use mathlib.Core.List.{List, [], map}
 use lib.ListN.{length}
-use Rattle.rules.specs.Rows.{Ptr, Store}
+use Rattle.rules.specs.Rows.{Ptr, Row, Store, rowAt}
 use Rattle.rules.specs.Declarations.{Env}
+use Rattle.rules.specs.Spines.{Spine}
 use Rattle.rules.specs.Firings.{Tally, tally, Result}
 use Rattle.rules.specs.Refusals.{Demand, Limits, Within, Fails, no-step, no-free-row, no-level, too-large, no-size}
-use Rattle.course.specs.Tries.{Try, fires, rules, End, missed, firing, Runs, final, then, Comes, misses, fires-now, wrote, side, RunMeets, trying, paying, later, TryMeets, writing, after-writing, too-deep, within, after-side}
+use Rattle.course.specs.Tries.{Try, fires, reduces, rules, End, missed, firing, Runs, final, then, Comes, misses, fires-now, wrote, side, RunMeets, trying, paying, later, TryMeets, writing, after-writing, too-deep, within, after-side}
 use Rattle.substitution.specs.Stores.{ext-length}
-use Rattle.promises.specs.Stores.{Later, later-trans, later-runs, later-comes, later-pays, later-run-meets}
+use Rattle.promises.specs.Stores.{Later, later-runs, later-comes, later-run-meets}
 use Rattle.again.specs.Embeds.{ren, Embeds, as-many, fits-renamed, fits-back, written-carried, row-due-carried}
-use Rattle.again.specs.Carried.{renResult, renDemand, spine-carried, Beside, pays-carried, asks-carried}
+use Rattle.again.specs.Carried.{later-fired, renResult, renDemand, spine-carried, Beside, pays-carried, asks-carried}
 use Rattle.again.specs.Alike.{Grown, rows-grown, EnvLike, env-later}
 use Rattle.again.specs.Twins.{Twin, no-rules, both-fire, both-write, both-reduce, rules-twin, head-row}
 use Rattle.again.specs.Embedding.{embedding, each-is, each-renamed, result-is, head-alike}
@@ -27,8 +28,14 @@ module _ (ρ : ℕ → ℕ) (e ẽ : Env) where
   renEnd missed = missed
   renEnd (firing r xs) = firing (renResult ρ r) (map (ren ρ) xs)
 
-  grown : {m m̃ m₁ m̃₁ : Tally} → Later m m₁ → Later m̃ m̃₁ → Embeds ρ (m₁ .store) (m̃₁ .store) → Grown (Embeds ρ) (m .store) (m̃ .store) (m₁ .store) (m̃₁ .store)
-  grown l r i = record { left = l .rows; right = r .rows; alike = i }
+  grown : {m m̃ m₁ m̃₁ : Tally} → Embeds ρ (m .store) (m̃ .store) → Later m m₁ → Later m̃ m̃₁ → Embeds ρ (m₁ .store) (m̃₁ .store) →
+      Grown (Embeds ρ) (m .store) (m̃ .store) (m₁ .store) (m̃₁ .store)
+  grown b l r i = record { before = b; left = l .rows; right = r .rows; alike = i }
+
+  -- the environments stay alike
+  env-on : {m m̃ m₁ m̃₁ : Tally} → Embeds ρ (m .store) (m̃ .store) → EnvCarried (m .store) (m̃ .store) → Later m m₁ → Later m̃ m̃₁ →
+      Embeds ρ (m₁ .store) (m̃₁ .store) → EnvCarried (m₁ .store) (m̃₁ .store)
+  env-on b w l r i = env-later (embedding ρ) (grown b l r i) w
 
   -- the rules at a head and at its copy
   twins-at : {s s̃ : Store} → Embeds ρ s s̃ → EnvCarried s s̃ → (h : Ptr) (xs : List Ptr) → Twin (embedding ρ) s s̃ (rules e s h xs) (rules ẽ s̃ (ren ρ h) (map (ren ρ) xs))
@@ -38,6 +45,7 @@ module _ (ρ : ℕ → ℕ) (e ẽ : Env) where
       Comes ẽ d m̃ (fires r̃ x̃s) m̃ (firing (renResult ρ r) (map (ren ρ) xs))
   fires-renamed {d} {m̃} r xs p q = subst (λ (y : Try). Comes ẽ d m̃ y m̃ (firing (renResult ρ r) (map (ren ρ) xs))) (λ i. fires (p i) (q i)) fires-now
 
+  -- ONE STEP AT A TIME: a and b are the steps that the two courses started with
   module _ (a b : ℕ) where
     record RunsTo (d : ℕ) (m̃ : Tally) (t : Ptr) (m′ : Tally) (t′ : Ptr) : Type 0 where
       to : Tally
@@ -49,6 +57,16 @@ module _ (ρ : ℕ → ℕ) (e ẽ : Env) where
       comes : Comes ẽ d m̃ ỹ to (renEnd o)
       beside : Beside ρ a b m′ to
 
+    -- after a side reduction and its copy
+    past-side : {d : ℕ} {m̃ m₁ m′ : Tally} {p p̃ q h : Ptr} {ys : List Ptr} {ỹ : Store → Row → List Ptr → Try} {o : End} (j : RunsTo d m̃ p m₁ q) → ren ρ p ≡ p̃ →
+        Spine (m₁ .store) q [] h ys → ComesTo (suc d) (j .to) (ỹ (j .to .store) (rowAt (j .to .store) (ren ρ h .row)) (map (ren ρ) ys)) m′ o →
+        ComesTo (suc d) m̃ (reduces p̃ ỹ) m′ o
+    past-side {d} {m̃} {q = q} j z s l = record {
+      to = l .to;
+      comes = side (subst (λ (x : Ptr). Runs ẽ d m̃ x (j .to) (ren ρ q)) z (j .runs)) (spine-carried ρ s (j .beside .embeds)) (l .comes);
+      beside = l .beside;
+    }
+
     mutual
       run-on : {d : ℕ} {m m̃ m′ : Tally} {t t′ : Ptr} → Runs e d m t m′ t′ → Beside ρ a b m m̃ → EnvCarried (m .store) (m̃ .store) → RunsTo d m̃ t m′ t′
       run-on (final {h = h} {xs = xs} s c) v w =
@@ -57,8 +75,8 @@ module _ (ρ : ℕ → ℕ) (e ẽ : Env) where
       run-on (then {h = h} {xs = xs} s c p r) v w =
           let d = come-on c v w (twins-at (v .embeds) w h xs) in
           let q = pays-carried ρ p (d .beside) in
-          let g = grown (later-trans (later-comes e c) (later-pays p)) (later-trans (later-comes ẽ (d .comes)) (later-pays (q .pays))) (q .beside .embeds) in
-          let k = run-on r (q .beside) (env-later (embedding ρ) g w) in
+          let u = env-on (v .embeds) w (later-fired e c p) (later-fired ẽ (d .comes) (q .pays)) (q .beside .embeds) in
+          let k = run-on r (q .beside) u in
           record { to = k .to; runs = then (spine-carried ρ s (v .embeds)) (d .comes) (q .pays) (k .runs); beside = k .beside }
 
       come-on : {d : ℕ} {m m̃ m′ : Tally} {y ỹ : Try} {o : End} → Comes e d m y m′ o → Beside ρ a b m m̃ → EnvCarried (m .store) (m̃ .store) →
@@ -69,16 +87,12 @@ module _ (ρ : ℕ → ℕ) (e ẽ : Env) where
           let g = rows-grown (embedding ρ) (v .embeds) z in
           let d = come-on c (record { embeds = g .alike; steps = v .steps }) (env-later (embedding ρ) g w) k in
           record { to = d .to; comes = wrote (written-carried ρ (v .embeds) (g .alike) (g .right) x) (d .comes); beside = d .beside }
-      come-on {m̃ = m̃} (side {d = d} {m₁ = m₁} {q = q} {h = h} {ys = ys} r s c) v w (both-reduce z k) =
+      come-on (side {h = h} {ys = ys} r s c) v w (both-reduce z k) =
           let j = run-on r v w in
           let i = j .beside .embeds in
-          let g = grown (later-runs e r) (later-runs ẽ (j .runs)) i in
-          let l = come-on c (j .beside) (env-later (embedding ρ) g w) (k _ _ g _ _ _ _ (head-row (embedding ρ) (head-alike ρ i h)) (each-renamed ρ ys)) in
-          record {
-            to = l .to;
-            comes = side (subst (λ (x : Ptr). Runs ẽ d m̃ x (j .to) (ren ρ q)) z (j .runs)) (spine-carried ρ s i) (l .comes);
-            beside = l .beside;
-          }
+          let g = grown (v .embeds) (later-runs e r) (later-runs ẽ (j .runs)) i in
+          past-side j z s
+          (come-on c (j .beside) (env-later (embedding ρ) g w) (k _ _ g _ _ _ _ (head-row (embedding ρ) (head-alike ρ i h)) (each-renamed ρ ys)))
 
     record RunMeetsTo (d : ℕ) (m̃ : Tally) (t : Ptr) (c : Demand) (m₁ : Tally) : Type 0 where
       to : Tally
@@ -89,6 +103,15 @@ module _ (ρ : ℕ → ℕ) (e ẽ : Env) where
       to : Tally
       meets : TryMeets ẽ d m̃ ỹ (renDemand ρ c) to
       beside : Beside ρ a b m₁ to
+
+    meets-past-side : {d : ℕ} {m̃ m₁ m₂ : Tally} {p p̃ q h : Ptr} {ys : List Ptr} {ỹ : Store → Row → List Ptr → Try} {c : Demand} (j : RunsTo d m̃ p m₁ q) → ren ρ p ≡ p̃ →
+        Spine (m₁ .store) q [] h ys → TryMeetsTo (suc d) (j .to) (ỹ (j .to .store) (rowAt (j .to .store) (ren ρ h .row)) (map (ren ρ) ys)) c m₂ →
+        TryMeetsTo (suc d) m̃ (reduces p̃ ỹ) c m₂
+    meets-past-side {d} {m̃} {q = q} j z s l = record {
+      to = l .to;
+      meets = after-side (subst (λ (x : Ptr). Runs ẽ d m̃ x (j .to) (ren ρ q)) z (j .runs)) (spine-carried ρ s (j .beside .embeds)) (l .meets);
+      beside = l .beside;
+    }
 
     mutual
       meet-on : {d : ℕ} {m m̃ m₁ : Tally} {t : Ptr} {c : Demand} → RunMeets e d m t c m₁ → Beside ρ a b m m̃ → EnvCarried (m .store) (m̃ .store) → RunMeetsTo d m̃ t c m₁
@@ -102,8 +125,8 @@ module _ (ρ : ℕ → ℕ) (e ẽ : Env) where
       meet-on (later {h = h} {xs = xs} s c p x) v w =
           let d = come-on c v w (twins-at (v .embeds) w h xs) in
           let q = pays-carried ρ p (d .beside) in
-          let g = grown (later-trans (later-comes e c) (later-pays p)) (later-trans (later-comes ẽ (d .comes)) (later-pays (q .pays))) (q .beside .embeds) in
-          let k = meet-on x (q .beside) (env-later (embedding ρ) g w) in
+          let u = env-on (v .embeds) w (later-fired e c p) (later-fired ẽ (d .comes) (q .pays)) (q .beside .embeds) in
+          let k = meet-on x (q .beside) u in
           record { to = k .to; meets = later (spine-carried ρ s (v .embeds)) (d .comes) (q .pays) (k .meets); beside = k .beside }
 
       try-on : {d : ℕ} {m m̃ m₁ : Tally} {y ỹ : Try} {c : Demand} → TryMeets e d m y c m₁ → Beside ρ a b m m̃ → EnvCarried (m .store) (m̃ .store) →
@@ -121,16 +144,12 @@ module _ (ρ : ℕ → ℕ) (e ẽ : Env) where
       try-on {m̃ = m̃} {c = c} (within {d = d} x) v w (both-reduce z k) =
           let j = meet-on x v w in
           record { to = j .to; meets = within (subst (λ (p : Ptr). RunMeets ẽ d m̃ p (renDemand ρ c) (j .to)) z (j .meets)); beside = j .beside }
-      try-on {m̃ = m̃} (after-side {d = d} {q = q} {h = h} {ys = ys} r s c) v w (both-reduce z k) =
+      try-on (after-side {h = h} {ys = ys} r s c) v w (both-reduce z k) =
           let j = run-on r v w in
           let i = j .beside .embeds in
-          let g = grown (later-runs e r) (later-runs ẽ (j .runs)) i in
-          let l = try-on c (j .beside) (env-later (embedding ρ) g w) (k _ _ g _ _ _ _ (head-row (embedding ρ) (head-alike ρ i h)) (each-renamed ρ ys)) in
-          record {
-            to = l .to;
-            meets = after-side (subst (λ (x : Ptr). Runs ẽ d m̃ x (j .to) (ren ρ q)) z (j .runs)) (spine-carried ρ s i) (l .meets);
-            beside = l .beside;
-          }
+          let g = grown (v .embeds) (later-runs e r) (later-runs ẽ (j .runs)) i in
+          meets-past-side j z s
+          (try-on c (j .beside) (env-later (embedding ρ) g w) (k _ _ g _ _ _ _ (head-row (embedding ρ) (head-alike ρ i h)) (each-renamed ρ ys)))
 
   -- THE SIMULATION
 

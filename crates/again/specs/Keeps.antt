@@ -14,12 +14,13 @@ use Rattle.rules.specs.Declarations.{Rule, Recursor, Form, plain, constructor, 
 use Rattle.rules.specs.Spines.{Spine}
 use Rattle.rules.specs.Firings.{Tally, Result, Due, Pays}
 use Rattle.course.specs.Tries.{Try, rules, End, missed, firing, Runs, final, then, Comes, misses, fires-now, wrote, side}
-use Rattle.promises.specs.Stores.{Later, later-refl, later-trans, later-writes, later-runs, later-comes, later-pays}
+use Rattle.promises.specs.Stores.{Later, later-refl, later-trans, later-writes, later-runs, later-comes}
 use Rattle.substitution.specs.Stores.{FieldsOk, node-fields, first-ok, second-ok, third-ok, term-child, body-child, Formed, Good, good-fields, ext-same, ext-good, put-formed, put-good, up-child}
 use Rattle.substitution.specs.Reading.{reads-exists}
 use Rattle.substitution.specs.Existence.{Kept}
 use Rattle.substitution.specs.Applied.{AllGood, no-more, and-good, all-good, none-left, spine-reads}
 use Rattle.substitution.specs.Dues.{opened-good, itself-good, number-good, constant-good, due-keeps}
+use Rattle.again.specs.Carried.{later-fired}
 use Rattle.again.specs.Alike.{Opt, nones, somes, Each, ended, next, NewRow, new-const, new-num, new-app, Likeness, rows-grown, ResultLike, opened-like, itself-like, number-like, constant-like, HeadLike, head-var, head-sort, head-const, head-app, head-lam, head-pi, head-let, head-proj, head-num, FormLike, plain-like, constructor-like, recursor-like, structure-like, EnvLike}
 use Rattle.again.specs.Twins.{Twin, no-rules, both-fire, both-write, both-reduce, rules-twin, head-row}
 
@@ -175,7 +176,7 @@ module _ (e : Env) where
         record { formed = comes-stand c (f .formed) v (twins-stand f v s) .formed; good = good-later (later-comes e c) (f .good) }
     runs-stand (then s c p r) f v =
         let k = comes-stand c (f .formed) v (twins-stand f v s) in
-        runs-stand r (fired-stands (k .end) (k .formed) p) (env-stands-later (later-trans (later-comes e c) (later-pays p)) v)
+        runs-stand r (fired-stands (k .end) (k .formed) p) (env-stands-later (later-fired e c p) v)
 
     comes-stand : {d : ℕ} {m m′ : Tally} {s̃ : Store} {y ỹ : Try} {o : End} → Comes e d m y m′ o → Formed (m .store) → EnvStands (m .store) e →
         Twin standing (m .store) s̃ y ỹ → ComesToStand m′ o
@@ -188,7 +189,7 @@ module _ (e : Env) where
         let l = later-runs e r in
         let p = spine-stands (j .formed) (j .good) s in
         comes-stand c (j .formed) (env-stands-later l v)
-        (k _ s̃ (record { left = l .rows; right = ext-same s̃; alike = j .formed }) _ _ _ _ (head-row standing (p .head)) (p .arguments))
+        (k _ s̃ (record { before = f; left = l .rows; right = ext-same s̃; alike = j .formed }) _ _ _ _ (head-row standing (p .head)) (p .arguments))
 
   -- THE LAST TRY: a run ends by a try that is missed, at a formed store and a good term
   pub record LastTry (d : ℕ) (m m′ : Tally) (t′ : Ptr) : Type 0 where
@@ -212,7 +213,7 @@ module _ (e : Env) where
   }
   last-try (then s c p r) f v =
       let k = comes-stand c (f .formed) v (twins-stand f v s) in
-      let l = later-trans (later-comes e c) (later-pays p) in
+      let l = later-fired e c p in
       let q = last-try r (fired-stands (k .end) (k .formed) p) (env-stands-later l v) in
       record {
         before = q .before;

@@ -10,3 +10,4 @@ pub mod Simulation
 pub mod Keeps
 pub mod Again
 pub mod OnCall
+pub mod ReadAlike
