@@ -5,7 +5,7 @@ use native.Mathlib.Omega.{arith as numbers}
 use mathlib.Core.Path.{_≡_, refl, ap, _∙_, sym, subst}
 use mathlib.Core.Bool.{true}
 use mathlib.Core.List.{List, [], _∷_}
-use mathlib.Core.Option.{some}
+use mathlib.Core.Option.{none, some}
 use lib.ListN.{length}
 use Rattle.rules.specs.Kinds.{sort, lam, let′}
 use Rattle.rules.specs.Rows.{Ptr, blank, Row, var, node, leaf, Store, cell, cellAt, rowAt, grow}
@@ -19,7 +19,8 @@ use Rattle.course.specs.Tables.{at, ap′, declared, Case, answerOf, seen}
 use Rattle.safety.specs.Sane.{Ready}
 use Rattle.safety.specs.Checks.{passed, what-passed, each-at, readyAt}
 use Rattle.safety.specs.Answers.{Holds, holds-same, one-holds}
-use Rattle.safety.specs.ExamplesOfRules.{limitsFor, CaseReady, RulesSay, result, case-holds, rules-computed, ask, answer-seen, decls, library, table, E1, E2, E3, E4, table-ready, E1-to-E11-of-the-rules}
+use Rattle.safety.specs.ExamplesOfRules.{limitsFor, CaseReady, RulesSay, result, case-holds, rules-computed, answer-seen, table-ready, E1-to-E11-of-the-rules}
+use Rattle.course.specs.Examples.{ask, decls, library, table, E1, E2, E3, E4}
 
 -- A REDUCER
 
@@ -144,7 +145,7 @@ unfolding grow
 two-lambdas = grow [] (leaf (sort 0) ∷ var 0 ∷ node lam (at 0) (at 1) blank ∷ ap′ 2 0 ∷ ap′ 2 3 ∷ [])
 
 abbrev twice : Case
-twice = ask 4 (term (at 0) 2 0)
+twice = ask 4 (term (at 0) 2 0) none
 
 twice-passed : passed (readyAt (declared [] []) (limitsFor two-lambdas twice) two-lambdas (at 4)) ≡ true
 unfolding readyAt two-lambdas
