@@ -1,0 +1,4 @@
+pub mod Prefix
+pub mod Walking
+pub mod Heads
+pub mod Arguments
