@@ -2,3 +2,5 @@ pub mod Prefix
 pub mod Walking
 pub mod Heads
 pub mod Arguments
+pub mod ForCallers
+pub mod Applying
