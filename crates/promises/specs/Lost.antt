@@ -1,5 +1,6 @@
 -- What `lost` means: a course comes to a place where the recorded height is too small, for the spine of a term or for the rows of a firing.
--- Definitions only. `eval-lost` of Complete.antt shows that the evaluator is lost in no other way; that rows which pass have no such place is not shown here.
+-- Definitions only. `eval-lost` of Complete.antt shows that the evaluator is lost in no other way; that a course over rows which pass comes to no such
+-- place is `run-never-lost` of safety/NeverLost.antt.
 use Prim.Native.Nat.{ℕ, suc}
 use mathlib.Core.Path.{_≡_}
 use mathlib.Core.List.{List, []}

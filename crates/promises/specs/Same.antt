@@ -3,13 +3,12 @@ use Prim.Native.Nat.{ℕ, suc}
 use native.Mathlib.Omega.{arith}
 use mathlib.Core.Path.{_≡_, refl, sym, ap, _∙_, subst}
 use mathlib.Core.List.{List, []}
-use mathlib.Core.Option.{Option}
-use Rattle.rules.specs.Kinds.{app, Tag}
-use Rattle.rules.specs.Rows.{Ptr, Row, node, Store, up, Got, got, put}
+use Rattle.rules.specs.Kinds.{app}
+use Rattle.rules.specs.Rows.{Ptr, Row, node, Store, Got}
 use Rattle.rules.specs.Declarations.{Env}
-use Rattle.rules.specs.Replacement.{count, Replaces, same, moved, inside, OnRow, stays, value, moves, children, OnField, word, child, under}
 use Rattle.rules.specs.Spines.{NoApp, Spine, head, through, joined}
 use Rattle.rules.specs.Firings.{Tally, tally, Result, Gives, by-replacement, no-row, number-row, constant-row, Due, Pays}
+use Rattle.substitution.specs.Existence.{replaces-unique}
 use Rattle.course.specs.Tries.{Try, rules, End, missed, firing, Runs, final, then, Comes, misses, fires-now, wrote, side}
 
 -- SPINES
@@ -32,44 +31,9 @@ spine-same (through {f = f} {a = a} e r) (through {f = f′} {a = a′} e′ r�
     let q′ : a′ ≡ a = cc in
     spine-same r (rw (q, q′) at r′)
 
--- REPLACEMENT
-mutual
-  pub replaces-same : {v : Option Ptr} {k c : ℕ} {s : Store} {p : Ptr} {g g′ : Got} → Replaces v k c s p g → Replaces v k c s p g′ → g ≡ g′
-  replaces-same (same h e) (same h′ e′) = sym e ∙ e′
-  replaces-same (same h e) (moved h′ l′ e′) = absurd (omega arith)
-  replaces-same (same h e) (inside h′ l′ r′ e′) = absurd (omega arith)
-  replaces-same (moved h l e) (same h′ e′) = absurd (omega arith)
-  replaces-same (moved h l e) (moved h′ l′ e′) = sym e ∙ e′
-  replaces-same (moved h l e) (inside h′ l′ r′ e′) = absurd (omega arith)
-  replaces-same (inside h l r e) (same h′ e′) = absurd (omega arith)
-  replaces-same (inside h l r e) (moved h′ l′ e′) = absurd (omega arith)
-  replaces-same {p = p} (inside h l r e) (inside h′ l′ r′ e′) =
-      sym e ∙ ap (λ (g : Got). got (g .store) (up (g .store) (g .at) (p .shift))) (row-same r r′) ∙ e′
-
-  row-same : {v : Option Ptr} {k c : ℕ} {s : Store} {t : ℕ} {w : Row} {g g′ : Got} → OnRow v k c s t w g → OnRow v k c s t w g′ → g ≡ g′
-  row-same (stays h e) (stays h′ e′) = sym e ∙ e′
-  row-same (stays h e) (value h′ q′ e′) = absurd (omega arith)
-  row-same (stays h e) (moves h′ e′) = absurd (omega arith)
-  row-same (value h q e) (stays h′ e′) = absurd (omega arith)
-  row-same {c = c} {s = s} (value {x = x} h q e) (value {x = x′} h′ q′ e′) = let z : x ≡ x′ = cc in sym e ∙ ap (λ (y : Ptr). got s (up s y c)) z ∙ e′
-  row-same (value h q e) (moves h′ e′) = let z = ap count q in absurd (omega arith)
-  row-same (moves h e) (stays h′ e′) = absurd (omega arith)
-  row-same (moves h e) (value h′ q e′) = let z = ap count q in absurd (omega arith)
-  row-same (moves h e) (moves h′ e′) = sym e ∙ e′
-  row-same (children {κ = κ} {g₁ = g₁} {g₂ = g₂} {g₃ = g₃} a b d e) (children {g₁ = g₁′} {g₂ = g₂′} {g₃ = g₃′} a′ b′ d′ e′) =
-      let q₁ : g₁′ ≡ g₁ = sym (field-same a a′) in
-      let q₂ : g₂′ ≡ g₂ = sym (field-same b (rw q₁ at b′)) in
-      let q₃ : g₃′ ≡ g₃ = sym (field-same d (rw q₂ at d′)) in
-      sym e ∙ sym (λ i. put (q₃ i .store) (node κ (q₁ i .at) (q₂ i .at) (q₃ i .at))) ∙ e′
-
-  field-same : {v : Option Ptr} {k : ℕ} {τ : Tag} {c : ℕ} {s : Store} {p : Ptr} {g g′ : Got} → OnField v k τ c s p g → OnField v k τ c s p g′ → g ≡ g′
-  field-same (word e) (word e′) = sym e ∙ e′
-  field-same (child r) (child r′) = replaces-same r r′
-  field-same (under r) (under r′) = replaces-same r r′
-
 -- A FIRING
 gives-same : {s : Store} {r : Result} {g g′ : Got} → Gives s r g → Gives s r g′ → g ≡ g′
-gives-same (by-replacement r) (by-replacement r′) = replaces-same r r′
+gives-same (by-replacement r) (by-replacement r′) = replaces-unique r r′
 gives-same (no-row e) (no-row e′) = sym e ∙ e′
 gives-same (number-row e) (number-row e′) = sym e ∙ e′
 gives-same (constant-row e) (constant-row e′) = sym e ∙ e′

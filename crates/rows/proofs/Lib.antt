@@ -8,7 +8,7 @@ pub mod Sizes
 pub mod Agree
 pub mod Writing
 pub mod InTurn
-pub mod Leaves
+pub mod DueRows
 pub mod Answers
 pub mod RowRules
 pub mod TidyWords

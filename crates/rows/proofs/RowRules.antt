@@ -11,7 +11,7 @@ use Rattle.rules.specs.Rows.{Ptr, ptr, Row, var, node, Cell, Store, cell, cellA
 use Rattle.rules.specs.RowCheck.{InRange, sort-in, const-in, app-in, lam-in, pi-in, let-in, proj-in, num-in, ChildOk, FieldOk, plain-ok, term-ok, body-ok, RowOk, var-ok, node-ok, Fits}
 use Rattle.rows.specs.declared.kinds.Sizes.{Sizes}
 use Rattle.rows.specs.Words.{kindOf, tagsAt, tagAt, shown, rowBy}
-use Rattle.rows.specs.Checks.{Ranged, var-ranged, node-ranged, Sized, Says, sizesOf}
+use Rattle.rows.specs.Checks.{Ranged, var-ranged, node-ranged, Sized, Within, Says, sizesOf}
 use Rattle.rows.proofs.NineKinds.{each-kind, fields-are}
 use Rattle.rows.proofs.Agree.{cell-row}
 use Rattle.rows.proofs.Answers.{says-yes, says-no, says-same, says-equal, says-at-most, says-below}
@@ -171,9 +171,6 @@ module _ (s : Store) (x : Cell) (z : Sizes) (gives : z ≡ sizesOf (cell s (x .r
   pub other-height : (h : ℕ) → x .height ≡ h → (z .height ≡ h → ⊥) → Says (Sized s x) false
   other-height h e f = says-no (λ sized. f (exact-height sized ∙ e))
 
-  pub large-bound : most-bound < z .bound → Says (Sized s x) false
-  large-bound h = says-no (λ sized. let g = sized .fits .bound in let e = exact-bound sized in omega arith)
-
   cell-exact : z .bound ≡ x .bound → z .height ≡ x .height → x ≡ cell s (x .row)
   cell-exact eb eh = λ i. record {
     row = sym (cell-row s (x .row)) i;
@@ -181,10 +178,12 @@ module _ (s : Store) (x : Cell) (z : Sizes) (gives : z ≡ sizesOf (cell s (x .r
     height = (sym eh ∙ ap (λ (y : Sizes). y .height) gives) i;
   }
 
-  pub right-sizes : z .bound ≡ x .bound → z .height ≡ x .height → z .bound ≤ most-bound → Says (Sized s x) (leb (z .height) 2000)
-  right-sizes eb eh small =
-      says-same (λ h. record { exact = cell-exact eb eh; fits = record { bound = rw (← eb) small; height = rw (← eh) h } })
-      (λ sized. rw eh (sized .fits .height)) (says-at-most (z .height) 2000)
+  pub right-sizes : {t : Bool} → z .bound ≡ x .bound → z .height ≡ x .height → Says (Within z) t → Says (Sized s x) t
+  right-sizes eb eh says =
+      says-same
+      (λ small. record { exact = cell-exact eb eh; fits = record { bound = rw (← eb) (small .bound); height = rw (← eh) (small .height) } })
+      (λ sized. record { bound = rw eb (sized .fits .bound); height = rw eh (sized .fits .height) })
+      says
 
 -- THE PARTS TESTED IN TURN
 

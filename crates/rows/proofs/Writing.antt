@@ -24,8 +24,8 @@ use Rattle.rows.specs.declared.Out.{Out}
 use Rattle.rows.specs.declared.Out.the-variants.{Done, Refused}
 use Rattle.rows.specs.declared.kinds.Sizes.{Sizes}
 use Rattle.rows.specs.Words.{ptrOf, rowBy, rowOf, shapeAt, decode, wordsOf, storeOf, whole, Stands, Children, Held}
-use Rattle.rows.specs.Checks.{Formed, sizesOf}
-use Rattle.rows.specs.Writes.{outOf, Grown, Wrote, Due, Pushed, wide, high, full, fits}
+use Rattle.rows.specs.Checks.{Formed, Within, sizesOf}
+use Rattle.rows.specs.Writes.{outOf, Grown, Wrote, Due, Pushed, too-large, none-free, at-mark}
 use Rattle.rows.proofs.Parts.{front-nine, part-same}
 use Rattle.rows.proofs.Store.{used-stands, cell-used, held-length, store-same, store-suc}
 use Rattle.rows.proofs.Formed.{formed-row}
@@ -143,8 +143,11 @@ module _ (l sc : List ℕ) (nlib m : ℕ) (w : Shape) (held : Held l sc m nlib) 
     unfolding decode
     words-due = λ i. record { row = sym (cell-row (storeOf l sc m) (rowOf w)) i; bound = bound-is i; height = height-is i }
 
-    small : z .bound ≤ most-bound → z .height ≤ most-height → Fits (cell (storeOf l sc m) (rowOf w))
-    small b h = record { bound = rw (← bound-is) b; height = rw (← height-is) h }
+    small : Within z → Fits (cell (storeOf l sc m) (rowOf w))
+    small h = record { bound = rw (← bound-is) (h .bound); height = rw (← height-is) (h .height) }
+
+    large : (Within z → ⊥) → Fits (cell (storeOf l sc m) (rowOf w)) → ⊥
+    large f h = f (record { bound = rw bound-is (h .bound); height = rw height-is (h .height) })
 
     module _ (p : Ptr) (sc′ : List ℕ) (room : 9 * m + 9 ≤ length sc) (at : p ≡ record { row = nlib + m; shift = 0 })
         (written : sc′ ≡ take (9 * m) sc ++ (wordsOf w (z .bound) (z .height) ++ drop (9 * m + 9) sc)) where
@@ -183,8 +186,7 @@ module _ (l sc : List ℕ) (nlib m : ℕ) (w : Shape) (held : Held l sc m nlib) 
       }
 
     pub pushed-wrote : {r : Out} {sc′ : List ℕ} → Pushed sc nlib m w z r sc′ → Wrote l sc m r sc′ answer
-    pushed-wrote (wide b) = refused-wrote 8 (put-large _ _ _ (λ f. let h = f .bound in omega (arith, bound-is)))
-    pushed-wrote (high b h) = refused-wrote 8 (put-large _ _ _ (λ f. let g = f .height in omega (arith, height-is)))
-    pushed-wrote (full b h none) =
-        refused-wrote 5 (put-full _ _ _ (small b h) (let many = held-length l sc m nlib held in omega arith))
-    pushed-wrote (fits {p} {sc′} b h room at written) = done-wrote p sc′ room at written (small b h)
+    pushed-wrote (too-large f) = refused-wrote 8 (put-large _ _ _ (large f))
+    pushed-wrote (none-free h none) =
+        refused-wrote 5 (put-full _ _ _ (small h) (let many = held-length l sc m nlib held in omega arith))
+    pushed-wrote (at-mark {p} {sc′} h room at written) = done-wrote p sc′ room at written (small h)

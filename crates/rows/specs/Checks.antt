@@ -4,7 +4,7 @@ use mathlib.Core.Path.{_≡_}
 use mathlib.Core.Bool.{Bool, true, false}
 use mathlib.Core.List.{List, [], _∷_, _++_}
 use lib.ListN.{getD, take}
-use Rattle.rules.specs.Maxima.{most-index}
+use Rattle.rules.specs.Maxima.{most-index, most-bound, most-height}
 use Rattle.rules.specs.Kinds.{Kind, Tag, plain, term, body}
 use Rattle.rules.specs.Rows.{Ptr, Row, var, node, Cell, Store, cell, fieldBound, fieldHeight}
 use Rattle.rules.specs.RowCheck.{InRange, Fits, Passes}
@@ -52,6 +52,11 @@ pub record FieldAdds (s : Store) (t : Tag) (p : Ptr) (z : Sizes) : Type 0 where
   pub bound : z .bound ≡ fieldBound s t p
   pub height : z .height ≡ fieldHeight s t p
   pub word : z .height < 4294967296
+
+-- "A row's bound is at most 4,096, its height at most 2,000."
+pub record Within (z : Sizes) : Type 0 where
+  pub bound : z .bound ≤ most-bound
+  pub height : z .height ≤ most-height
 
 -- recorded bound and height are exact and within the maxima
 pub record Sized (s : Store) (x : Cell) : Type 0 where

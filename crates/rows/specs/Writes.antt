@@ -3,7 +3,6 @@ use Prim.Native.Nat.{ℕ, _+_, _*_, _≤_, _<_}
 use mathlib.Core.Path.{_≡_}
 use mathlib.Core.List.{List, _++_}
 use lib.ListN.{length, take, drop}
-use Rattle.rules.specs.Maxima.{most-bound, most-height}
 use Rattle.rules.specs.Kinds.{plain}
 use Rattle.rules.specs.Rows.{Cell, got}
 use Rattle.rules.specs.Accepted.{IsRow, part}
@@ -14,7 +13,7 @@ use Rattle.rows.specs.declared.Out.{Out}
 use Rattle.rows.specs.declared.Out.the-variants.{Done, Refused}
 use Rattle.rows.specs.declared.kinds.Sizes.{Sizes}
 use Rattle.rows.specs.Words.{ptrOf, tagAt, decode, wordsOf, storeOf}
-use Rattle.rows.specs.Checks.{Tidy}
+use Rattle.rows.specs.Checks.{Tidy, Within}
 
 -- an answer, with the words that were left, as the course's
 abbrev pub outOf : Out → List ℕ → List ℕ → course.Out
@@ -45,10 +44,7 @@ pub record Due (n : ℕ) (w : Shape) : Type 0 where
 
 -- the row writer's own promise, on words: 8, 5, or the nine words at the mark
 pub data Pushed (sc : List ℕ) (nlib m : ℕ) (w : Shape) (z : Sizes) : Out → List ℕ → Type 0 where
-  wide : most-bound < z .bound → Pushed sc nlib m w z (Refused 8) sc
-  high : z .bound ≤ most-bound → most-height < z .height → Pushed sc nlib m w z (Refused 8) sc
-  full : z .bound ≤ most-bound → z .height ≤ most-height → length sc < 9 * m + 9 → Pushed sc nlib m w z (Refused 5) sc
-  fits : {p : Ptr} {sc′ : List ℕ} → z .bound ≤ most-bound → z .height ≤ most-height → 9 * m + 9 ≤ length sc →
-      p ≡ record { row = nlib + m; shift = 0 } →
-      sc′ ≡ take (9 * m) sc ++ (wordsOf w (z .bound) (z .height) ++ drop (9 * m + 9) sc) →
-      Pushed sc nlib m w z (Done p (m + 1)) sc′
+  too-large : (Within z → ⊥) → Pushed sc nlib m w z (Refused 8) sc
+  none-free : Within z → length sc < 9 * m + 9 → Pushed sc nlib m w z (Refused 5) sc
+  at-mark : {p : Ptr} {sc′ : List ℕ} → Within z → 9 * m + 9 ≤ length sc → p ≡ record { row = nlib + m; shift = 0 } →
+      sc′ ≡ take (9 * m) sc ++ (wordsOf w (z .bound) (z .height) ++ drop (9 * m + 9) sc) → Pushed sc nlib m w z (Done p (m + 1)) sc′

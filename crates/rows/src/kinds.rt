@@ -9,37 +9,53 @@ ghost use Prim.Native.Nat.{max, _+_, _<_, _≤_};
 ghost use Rattle.rules.specs.Kinds.{plain};
 ghost use Rattle.rules.specs.Rows.{cell};
 ghost use Rattle.rows.specs.Words.{ptrOf, rowOf, tagAt, whole, Stands, Children};
-ghost use Rattle.rows.specs.Checks.{tagCode, used, FieldAdds, sizesOf};
+ghost use Rattle.rows.specs.Checks.{tagCode, used, FieldAdds, sizesOf, Within, Says};
 
-// Nine kinds by three fields: 0 a plain word, 1 a term, 2 a body under the binder.
+// What stands in a field.
+pub const PLAIN: u8 = 0;
+
+pub const TERM: u8 = 1;
+
+pub const BODY: u8 = 2;
+
+// Nine kinds by three fields: plain word, term, or body under the binder.
 const FIELDS: [u8; 27] = [
-    0,
-    0,
-    0,
-    0,
-    0,
-    0,
-    0,
-    0,
-    0,
-    1,
-    1,
-    0,
-    1,
-    2,
-    0,
-    1,
-    2,
-    0,
-    1,
-    1,
-    2,
-    1,
-    0,
-    0,
-    0,
-    0,
-    0,
+    // 0 variable
+    PLAIN,
+    PLAIN,
+    PLAIN,
+    // 1 sort
+    PLAIN,
+    PLAIN,
+    PLAIN,
+    // 2 constant
+    PLAIN,
+    PLAIN,
+    PLAIN,
+    // 3 application
+    TERM,
+    TERM,
+    PLAIN,
+    // 4 lambda
+    TERM,
+    BODY,
+    PLAIN,
+    // 5 pi
+    TERM,
+    BODY,
+    PLAIN,
+    // 6 let
+    TERM,
+    TERM,
+    BODY,
+    // 7 projection
+    TERM,
+    PLAIN,
+    PLAIN,
+    // 8 number
+    PLAIN,
+    PLAIN,
+    PLAIN,
 ];
 
 // How many of the six words between kind and bound a kind uses.
@@ -78,7 +94,7 @@ fn field_sizes<'a>(library: &'a [u32], scratch: &'a [u32], kind: u32, j: u32, p:
     ensures { λ r. ⌜ FieldAdds (whole (now (library .entry)) (now (scratch .entry))) (tagAt kind j) (ptrOf p) r ⌝ }
 {
     let tag = field_tag(kind, j);
-    if tag == 0 {
+    if tag == PLAIN {
         return Sizes {
             bound: 0,
             height: 0,
@@ -86,7 +102,7 @@ fn field_sizes<'a>(library: &'a [u32], scratch: &'a [u32], kind: u32, j: u32, p:
     }
     let height = wide(height_of(row_at(library, scratch, p.row)));
     let bound = ptr_bound(library, scratch, p);
-    if tag == 1 {
+    if tag == TERM {
         return Sizes { bound, height };
     }
     if bound == 0 {
@@ -96,6 +112,16 @@ fn field_sizes<'a>(library: &'a [u32], scratch: &'a [u32], kind: u32, j: u32, p:
         bound: bound - 1,
         height,
     }
+}
+
+// A row's bound is at most 4,096, its height at most 2,000.
+pub fn within(size: Sizes) -> bool
+    ensures { λ r. ⌜ Says (Within size) r ⌝ }
+{
+    if 4096 < size.bound {
+        return false;
+    }
+    size.height <= 2000
 }
 
 fn larger(a: u64, b: u64) -> u64

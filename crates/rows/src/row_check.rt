@@ -4,9 +4,11 @@ use super::Ptr;
 use super::Shape;
 use super::bound_of;
 use super::height_of;
+use super::kinds::PLAIN;
 use super::kinds::field_tag;
 use super::kinds::sizes_of;
 use super::kinds::used_words;
+use super::kinds::within;
 use super::row_at;
 use super::shape_of;
 ghost use mathlib.Core.Path.{_≡_};
@@ -87,7 +89,7 @@ fn field_ok<'a>(library: &'a [u32], scratch: &'a [u32], n: u32, kind: u32, j: u3
     requires { ⌜ Stands (now library) (now scratch) n ⌝ }
     ensures { λ r. ⌜ Says (FieldOk (whole (now (library .entry)) (now (scratch .entry))) n (shown (tagAt kind j) (ptrOf p)) (tagAt kind j)) r ⌝ }
 {
-    if field_tag(kind, j) == 0 {
+    if field_tag(kind, j) == PLAIN {
         return true;
     }
     if n <= p.row {
@@ -139,10 +141,7 @@ fn sized<'a>(library: &'a [u32], scratch: &'a [u32], n: u32) -> bool
     if size.height != (height_of(row) as u64) {
         return false;
     }
-    if 4096 < size.bound {
-        return false;
-    }
-    size.height <= 2000
+    within(size)
 }
 
 fn row_passes<'a>(library: &'a [u32], scratch: &'a [u32], declarations: u32, n: u32) -> bool

@@ -4,6 +4,7 @@ use super::Ptr;
 use super::Shape;
 use super::kinds::Sizes;
 use super::kinds::sizes_of;
+use super::kinds::within;
 ghost use mathlib.Core.Path.{_≡_};
 ghost use mathlib.Core.List.{_++_};
 ghost use Prim.Native.Nat.{_+_, _*_, _/_, _<_, _≤_};
@@ -14,10 +15,6 @@ ghost use Rattle.rules.specs.Arithmetic.{wordsValue};
 ghost use Rattle.course.specs.Charged.{putIn};
 ghost use Rattle.rows.specs.Words.{rowOf, leafShape, wordsOf, storeOf, Held};
 ghost use Rattle.rows.specs.Writes.{Wrote, Due, Pushed};
-
-const MOST_BOUND: u64 = 4096;
-
-const MOST_HEIGHT: u64 = 2000;
 
 // The nine words at the front of a part.
 fn fill(part: &mut [u32], w: Shape, bound: u32, height: u32)
@@ -35,18 +32,18 @@ fn fill(part: &mut [u32], w: Shape, bound: u32, height: u32)
     part[8] = height;
 }
 
+// 8 before 5.
 fn push(scratch: &mut [u32], nlib: u32, mark: u32, w: Shape, size: Sizes) -> Out
     requires { ⌜ nlib + mark < 4294967295 ⌝ }
     ensures { λ r. ⌜ Pushed (now (scratch .entry)) nlib mark w size r (now (scratch .exit)) ⌝ }
 {
-    if MOST_BOUND < size.bound {
-        return Out::Refused(8);
-    }
-    if MOST_HEIGHT < size.height {
-        return Out::Refused(8);
-    }
     let at = 9 * (mark as usize);
-    if scratch.len() < at + 9 {
+    let end = at + 9;
+    let small = within(size);
+    if !small {
+        return Out::Refused(8);
+    }
+    if scratch.len() < end {
         return Out::Refused(5);
     }
     fill(&mut scratch[at..], w, size.bound as u32, size.height as u32);

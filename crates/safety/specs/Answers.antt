@@ -21,11 +21,10 @@ use Rattle.promises.specs.Says.{ResSays, r-ok, r-no, r-lost, says}
 use Rattle.promises.specs.Same.{runs-same}
 use Rattle.promises.specs.Apart.{runs-apart}
 use Rattle.promises.specs.First as F
-use Rattle.promises.specs.Complete.{eval-complete-term, eval-complete-refusal}
 use Rattle.promises.specs.Larger.{AtLeast, runs-deeper}
 use Rattle.safety.specs.Sane.{depthOf, declCount, Ready, accepted-ready, accepted-depth}
 use Rattle.safety.specs.Keeps.{Leaves, runs-keep}
-use Rattle.safety.specs.NeverLost.{run-never-lost, eval-never-lost}
+use Rattle.safety.specs.NeverLost.{run-never-lost}
 
 -- AT MOST ONE, IN ONE WAY
 
@@ -40,11 +39,14 @@ answers-same {e} a b =
     let z = runs-same e (to-runs e (a .reduces)) (to-runs e (b .reduces)) in
     record { term = z .term; steps = ap (λ (m : Tally). m .steps) (z .tally); store = ap (λ (m : Tally). m .store) (z .tally) }
 
-pub refusals-same : {e : Env} {lim : Limits} {N : ℕ} {s : Store} {t : Ptr} {k₁ k₂ : ℕ} → Refused e lim N s t k₁ → Refused e lim N s t k₂ → k₁ ≡ k₂
+pub refusals-same : {e : Env} {lim : Limits} {N : ℕ} {s : Store} {t : Ptr} {k₁ k₂ : ℕ} →
+    Refused e lim N s t k₁ → Refused e lim N s t k₂ → k₁ ≡ k₂
 refusals-same {e} {lim} a b =
-    F.refusals-same e lim (to-meets e (a .meets)) (record { within = a .within; fails = a .fails }) (to-meets e (b .meets)) (record { within = b .within; fails = b .fails })
+    F.refusals-same e lim (to-meets e (a .meets)) (record { within = a .within; fails = a .fails })
+    (to-meets e (b .meets)) (record { within = b .within; fails = b .fails })
 
-pub never-both : {e : Env} {lim : Limits} {N : ℕ} {s : Store} {t t′ : Ptr} {k n : ℕ} {s′ : Store} → Answered e lim N s t t′ k s′ → Refused e lim N s t n → ⊥
+pub never-both : {e : Env} {lim : Limits} {N : ℕ} {s : Store} {t t′ : Ptr} {k n : ℕ} {s′ : Store} →
+    Answered e lim N s t t′ k s′ → Refused e lim N s t n → ⊥
 never-both {e} {lim} a b = runs-apart e lim (to-runs e (a .reduces)) (a .within) (le-refl _) (to-meets e (b .meets)) (b .fails)
 
 failing-number : {lim : Limits} {m : Tally} {a : Demand} {n : ℕ} → Fails lim m a n → (4 ≤ n) × (n ≤ 8)
@@ -68,46 +70,46 @@ larger-budgets {e} more l a = record {
 
 -- EXACTLY ONE, AND THE EVALUATOR COMPUTES IT
 
-pub data Settled (e : Env) (lim : Limits) (N : ℕ) (s : Store) (t : Ptr) : Type 0 where
-  answered : {t′ : Ptr} {k : ℕ} {s′ : Store} → Answered e lim N s t t′ k s′ → Settled e lim N s t
-  refused : {n : ℕ} → Refused e lim N s t n → Settled e lim N s t
+-- what a result says holds of the rules; that the evaluator is lost says nothing, so it never holds
+pub data Holds (e : Env) (lim : Limits) (N : ℕ) (s : Store) (t : Ptr) : Res → Type 0 where
+  term-holds : {t′ : Ptr} {k : ℕ} {s′ : Store} → Answered e lim N s t t′ k s′ → Holds e lim N s t (ok (tally k s′) t′)
+  refusal-holds : {n : ℕ} → Refused e lim N s t n → Holds e lim N s t (no n)
+
+-- two results that the statement allows are identical
+pub holds-same : {e : Env} {lim : Limits} {N : ℕ} {s : Store} {t : Ptr} {o o′ : Res} → Holds e lim N s t o → Holds e lim N s t o′ → o ≡ o′
+holds-same (term-holds a) (term-holds b) = let z = answers-same a b in λ i. ok (tally (z .steps i) (z .store i)) (z .term i)
+holds-same (term-holds a) (refusal-holds b) = absurd (never-both a b)
+holds-same (refusal-holds a) (term-holds b) = absurd (never-both b a)
+holds-same (refusal-holds a) (refusal-holds b) = ap no (refusals-same a b)
+
+holds-answered : {e : Env} {lim : Limits} {N : ℕ} {s : Store} {t t′ : Ptr} {m : Tally} →
+    Holds e lim N s t (ok m t′) → Answered e lim N s t t′ (m .steps) (m .store)
+holds-answered (term-holds a) = a
+
+holds-refused : {e : Env} {lim : Limits} {N : ℕ} {s : Store} {t : Ptr} {n : ℕ} → Holds e lim N s t (no n) → Refused e lim N s t n
+holds-refused (refusal-holds a) = a
 
 module _ {e : Env} {lim : Limits} {s : Store} {t : Ptr} {N : ℕ} (ready : Ready e lim s t) where
+  holds-said : {o : Res} → ResSays e lim N (tally 0 s) t o → Holds e lim N s t o
+  holds-said (r-ok r v) = term-holds (record { reduces = from-runs e r; within = v })
+  holds-said (r-no {m₁ = m} {a = a} x v f) = refusal-holds (record { demand = a; at = m; meets = from-meets e x; within = v; fails = f })
+  holds-said (r-lost x) = absurd (run-never-lost x (ready .sane) (ready .term))
+
+  -- the rules answer or refuse, as the evaluator does
+  pub one-holds : Holds e lim N s t (eval e lim N s t)
+  one-holds = holds-said (says e lim N s t (ready .room))
+
   pub answered-eval : {t′ : Ptr} {k : ℕ} {s′ : Store} → Answered e lim N s t t′ k s′ → eval e lim N s t ≡ ok (tally k s′) t′
-  answered-eval a = eval-complete-term e lim (to-runs e (a .reduces)) (a .within) (eval-never-lost N ready)
-
-  pub refused-eval : {n : ℕ} → Refused e lim N s t n → eval e lim N s t ≡ no n
-  refused-eval r = eval-complete-refusal e lim (to-meets e (r .meets)) (r .within) (r .fails) (eval-never-lost N ready)
-
-  term-said : {t′ : Ptr} {m : Tally} {o : Res} → ResSays e lim N (tally 0 s) t o → o ≡ ok m t′ → Answered e lim N s t t′ (m .steps) (m .store)
-  term-said {t′} {m} (r-ok {m′ = m₁} {t′ = t₁} r v) q =
-      let same-tally : m₁ ≡ m = cc in
-      let same-term : t₁ ≡ t′ = cc in
-      let a : Answered e lim N s t t₁ (m₁ .steps) (m₁ .store) = record { reduces = from-runs e r; within = v } in
-      rw (same-tally, same-term) at a
-  term-said {t′} {m} (r-no {k = k} x v f) q = absurd (let z : _≡_ {A = ℕ} 0 1 = cc in omega arith)
-  term-said {t′} {m} (r-lost x) q = absurd (let z : _≡_ {A = ℕ} 0 1 = cc in omega arith)
-
-  refusal-said : {n : ℕ} {o : Res} → ResSays e lim N (tally 0 s) t o → o ≡ no n → Refused e lim N s t n
-  refusal-said {n} (r-ok {m′ = m} {t′ = t′} r v) q = absurd (let z : _≡_ {A = ℕ} 0 1 = cc in omega arith)
-  refusal-said {n} (r-no {m₁ = m} {a = a} {k = k} x v f) q =
-      let same-number : k ≡ n = cc in
-      record { demand = a; at = m; meets = from-meets e x; within = v; fails = subst (Fails lim m a) same-number f }
-  refusal-said {n} (r-lost x) q = absurd (let z : _≡_ {A = ℕ} 0 1 = cc in omega arith)
+  answered-eval a = holds-same one-holds (term-holds a)
 
   pub eval-answered : {t′ : Ptr} {m : Tally} → eval e lim N s t ≡ ok m t′ → Answered e lim N s t t′ (m .steps) (m .store)
-  eval-answered q = term-said (says e lim N s t (ready .room)) q
+  eval-answered q = holds-answered (subst (Holds e lim N s t) q one-holds)
+
+  pub refused-eval : {n : ℕ} → Refused e lim N s t n → eval e lim N s t ≡ no n
+  refused-eval r = holds-same one-holds (refusal-holds r)
 
   pub eval-refused : {n : ℕ} → eval e lim N s t ≡ no n → Refused e lim N s t n
-  eval-refused q = refusal-said (says e lim N s t (ready .room)) q
-
-  settle : {o : Res} → ResSays e lim N (tally 0 s) t o → Settled e lim N s t
-  settle (r-ok r v) = answered (record { reduces = from-runs e r; within = v })
-  settle (r-no x v f) = refused (record { demand = _; at = _; meets = from-meets e x; within = v; fails = f })
-  settle (r-lost x) = absurd (run-never-lost x (ready .sane) (ready .term))
-
-  pub one-holds : Settled e lim N s t
-  one-holds = settle (says e lim N s t (ready .room))
+  eval-refused q = holds-refused (subst (Holds e lim N s t) q one-holds)
 
   -- THE ANSWER: in scope, over the old rows, and its new ones pass
 
@@ -126,8 +128,8 @@ module _ {e : Env} {lim : Limits} {s : Store} {t : Ptr} {N : ℕ} (ready : Ready
 -- ACCEPTED INPUT
 
 module _ {w : Lent} {e : Env} {s : Store} (a : Accepted w e s) where
-  pub accepted-settled : Settled e (limitsOf w) (w .nesting) s (w .term)
-  accepted-settled = one-holds (accepted-ready a)
+  pub accepted-holds : Holds e (limitsOf w) (w .nesting) s (w .term) (eval e (limitsOf w) (w .nesting) s (w .term))
+  accepted-holds = one-holds (accepted-ready a)
 
   pub accepted-in-scope : {t′ : Ptr} {k : ℕ} {s′ : Store} → Answered e (limitsOf w) (w .nesting) s (w .term) t′ k s′ → InScope s′ (w .depth) t′
   accepted-in-scope {t′} {s′ = s′} q = subst (λ (d : ℕ). InScope s′ d t′) (accepted-depth a) (in-scope (accepted-ready a) q)

@@ -1,10 +1,11 @@
 -- A course over a sane store leaves a sane store that extends it, and a term in scope at the same depth.
 -- Shown for a firing, for trying and for a run. Assumes a sane store and a term in scope.
 use Prim.Native.Nat.{ℕ}
-use mathlib.Core.List.{List}
-use Rattle.rules.specs.Rows.{Ptr, Store}
+use mathlib.Core.List.{List, []}
+use Rattle.rules.specs.Rows.{Ptr, Row, Store, rowAt}
 use Rattle.rules.specs.RowCheck.{InScope}
 use Rattle.rules.specs.Declarations.{Env}
+use Rattle.rules.specs.Spines.{Spine}
 use Rattle.rules.specs.Firings.{Tally, Result, Pays}
 use Rattle.course.specs.Tries.{Try, End, missed, firing, Runs, final, then, Comes, misses, fires-now, wrote, side}
 use Rattle.substitution.specs.Stores.{Ext, ext-same, ext-then}
@@ -15,7 +16,7 @@ use Rattle.promises.specs.Stores.{ext-grow}
 use Rattle.safety.specs.Sane.{depthOf, declCount, Sane, in-later, sane-later}
 use Rattle.safety.specs.Scope.{AllIn, none-in, all-good, spine-in, ResultIn, result-good, due-in}
 use Rattle.safety.specs.Parts.{grow-pass}
-use Rattle.safety.specs.Safe.{Safe, safe-none, safe-fires, safe-writes, safe-reduces, rules-safe}
+use Rattle.safety.specs.Safe.{Safe, safe-none, safe-fires, safe-writes, safe-reduces, Follows, term-safe}
 
 -- from s on, a sane store and a term in scope
 pub record Leaves (e : Env) (s s′ : Store) (t : Ptr) : Type 0 where
@@ -49,16 +50,21 @@ then-leaves x k = record { more = ext-then x (k .more); sane = k .sane; term = k
 then-ends : {e : Env} {s s₁ s₂ : Store} {o : End} → Ext s s₁ → Ends e s₁ s₂ o → Ends e s s₂ o
 then-ends x k = record { more = ext-then x (k .more); sane = k .sane; end = k .end }
 
+-- what follows a side reduction that left a term in scope is safe
+pub after-side : {e : Env} {s s₁ : Store} {q h : Ptr} {ys : List Ptr} {y : Store → Row → List Ptr → Try} → Leaves e s s₁ q → Spine s₁ q [] h ys →
+    Follows (declCount e) (depthOf e) s y → Safe (declCount e) (depthOf e) s₁ (y s₁ (rowAt s₁ (h .row)) ys)
+after-side {h = h} k q f =
+    let a = k .sane .pass in
+    f _ _ _ (k .more) a (pass-worded a .each (h .row)) (spine-in a (k .term) none-in q .arguments)
+
 mutual
   pub runs-keep : {e : Env} {d : ℕ} {m m′ : Tally} {t t′ : Ptr} → Runs e d m t m′ t′ → Sane e (m .store) → InScope (m .store) (depthOf e) t →
       Leaves e (m .store) (m′ .store) t′
   runs-keep (final s c) sane i =
-      let h = spine-in (sane .pass) i none-in s in
-      let k = comes-keep c sane (rules-safe sane (h .head) (h .arguments)) in
+      let k = comes-keep c sane (term-safe sane i s) in
       record { more = k .more; sane = k .sane; term = in-later (k .more) i }
   runs-keep (then s c p r) sane i =
-      let h = spine-in (sane .pass) i none-in s in
-      let k = comes-keep c sane (rules-safe sane (h .head) (h .arguments)) in
+      let k = comes-keep c sane (term-safe sane i s) in
       let q = pays-keep (k .sane) (k .end) p in
       then-leaves (k .more) (then-leaves (q .more) (runs-keep r (q .sane) (q .term)))
 
@@ -70,7 +76,6 @@ mutual
       let a = grow-pass (sane .pass) r w in
       let x = ext-grow (m .store) ws in
       then-ends x (comes-keep c (sane-later x a sane) (f a))
-  comes-keep (side {h = h} r s c) sane (safe-reduces i f) =
+  comes-keep (side r s c) sane (safe-reduces i f) =
       let k = runs-keep r sane i in
-      let q = spine-in (k .sane .pass) (k .term) none-in s in
-      then-ends (k .more) (comes-keep c (k .sane) (f _ _ _ (k .more) (k .sane .pass) (pass-worded (k .sane .pass) .each (h .row)) (q .arguments)))
+      then-ends (k .more) (comes-keep c (k .sane) (after-side k s f))

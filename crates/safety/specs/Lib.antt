@@ -6,3 +6,9 @@ pub mod Safe
 pub mod Keeps
 pub mod NeverLost
 pub mod Answers
+pub mod Words
+pub mod Unique
+pub mod OnCall
+pub mod Checks
+pub mod ExamplesOfRules
+pub mod Wrong

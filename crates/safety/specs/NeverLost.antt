@@ -20,7 +20,7 @@ use Rattle.course.specs.Views.{Cmp, at-most, over, cmp, AppView, is-app, no-app
 use Rattle.course.specs.Tries.{Try, firing}
 use Rattle.course.specs.Eval.{onField, onRow, onPtr, replaceBy, spineOn, spineBy, spine, give, dueOf, lost, eval}
 use Rattle.substitution.specs.Stores.{FieldsOk, var-fields, node-fields, first-ok, term-child, Formed, Good, good-fields, fields-at, scope-good, Ext, ext-same, ext-then, ext-good-field, ext-field-height, up-child}
-use Rattle.substitution.specs.Passing.{pass-formed, pass-worded}
+use Rattle.substitution.specs.Passing.{pass-formed}
 use Rattle.substitution.specs.Existence.{ValueGood, some-good, value-good-later, replace-keeps, height-positive}
 use Rattle.substitution.specs.Dues.{ResultGood, opened-good, itself-good, number-good, constant-good}
 use Rattle.promises.specs.Stores.{ext-grow}
@@ -29,10 +29,10 @@ use Rattle.promises.specs.Lost.{RunLoses, no-head, in-trying, in-paying, in-the
 use Rattle.promises.specs.Complete.{eval-lost}
 use Rattle.safety.specs.Lists.{none-some}
 use Rattle.safety.specs.Sane.{depthOf, declCount, Sane, sane-later, Ready}
-use Rattle.safety.specs.Scope.{none-in, spine-in, result-good}
+use Rattle.safety.specs.Scope.{result-good}
 use Rattle.safety.specs.Parts.{grow-pass}
-use Rattle.safety.specs.Safe.{Safe, safe-writes, safe-reduces, rules-safe}
-use Rattle.safety.specs.Keeps.{EndIn, firing-in, runs-keep, comes-keep, pays-keep}
+use Rattle.safety.specs.Safe.{Safe, safe-writes, safe-reduces, term-safe}
+use Rattle.safety.specs.Keeps.{EndIn, firing-in, pays-keep, after-side, runs-keep, comes-keep}
 
 data Found {A : Type 0} : Option A → Type 0 where
   found : {a : A} → Found (some a)
@@ -88,17 +88,20 @@ module _ (v : Option Ptr) (k : ℕ) where
   data Grown (s : Store) : Option Got → Type 0 where
     grown : {g : Got} → Ext s (g .store) → Formed (g .store) → Grown s (some g)
 
-  replaced-grown : {c : ℕ} {s : Store} {p : Ptr} {o : Option Got} → Formed s → Good s p → ValueGood s v → Found o → All (Replaces v k c s p) o → Grown s o
+  replaced-grown : {c : ℕ} {s : Store} {p : Ptr} {o : Option Got} →
+      Formed s → Good s p → ValueGood s v → Found o → All (Replaces v k c s p) o → Grown s o
   replaced-grown d o x found (just r) = let q = replace-keeps d o x r in grown (q .more) (q .formed)
 
-  grown-then : {s : Store} {o : Option Got} {next : Got → Option Got} → Grown s o → ((g : Got) → Ext s (g .store) → Formed (g .store) → Found (next g)) → Found (given o next)
+  grown-then : {s : Store} {o : Option Got} {next : Got → Option Got} →
+      Grown s o → ((g : Got) → Ext s (g .store) → Formed (g .store) → Found (next g)) → Found (given o next)
   grown-then (grown x d) h = h _ x d
 
   module _ (n : ℕ) (ready : Reaches n) where
     abbrev by : ℕ → Store → Ptr → Option Got
     by c s p = replaceBy v k n c s p
 
-    field-grown : {s : Store} {p : Ptr} {τ : Tag} (c : ℕ) → Formed s → FieldOk s (length s) p τ → ValueGood s v → fieldHeight s τ p ≤ n → Grown s (onField v k by τ c s p)
+    field-grown : {s : Store} {p : Ptr} {τ : Tag} (c : ℕ) →
+        Formed s → FieldOk s (length s) p τ → ValueGood s v → fieldHeight s τ p ≤ n → Grown s (onField v k by τ c s p)
     unfolding fieldHeight
     field-grown {s} c d (plain-ok o) x l = grown (ext-same s) d
     field-grown {s} {p} c d (term-ok o) x l = replaced-grown d o x (ready .at c s p d o x l) (replace-says v k n c s p)
@@ -109,7 +112,8 @@ module _ (v : Option Ptr) (k : ℕ) where
         Grown s′ (onField v k by τ c s′ p)
     later-grown c e d o x l = field-grown c d (ext-good-field e o) (value-good-later e x) (omega (arith, l, ext-field-height e (le-refl _) o))
 
-    row-found : {s : Store} {w : Row} (c r : ℕ) → Formed s → FieldsOk s (length s) w → ValueGood s v → cell s w .height ≤ suc n → Found (onRow v k by c s r w)
+    row-found : {s : Store} {w : Row} (c r : ℕ) →
+        Formed s → FieldsOk s (length s) w → ValueGood s v → cell s w .height ≤ suc n → Found (onRow v k by c s r w)
     unfolding onRow cell
     row-found c r d var-fields x l = found
     row-found c r d (node-fields a b z) x l =
@@ -123,7 +127,8 @@ module _ (v : Option Ptr) (k : ℕ) where
     pointer-found c s p d o x l (at-most h) b = found
     pointer-found c s p d o x l (over h) (at-most q) = found
     pointer-found c s p d o x l (over h) (over q) =
-        then-found (λ g. got (g .store) (up (g .store) (g .at) (p .shift))) (row-found (c - p .shift) (p .row) d (good-fields d o) x (omega (arith, l, height-at d o)))
+        then-found (λ g. got (g .store) (up (g .store) (g .at) (p .shift)))
+        (row-found (c - p .shift) (p .row) d (good-fields d o) x (omega (arith, l, height-at d o)))
 
   reaches : (n : ℕ) → Reaches n
   unfolding replaceBy
@@ -154,16 +159,12 @@ rows-found {xs = xs} sane (firing-in i is) = found-none (due-found xs (pass-form
 mutual
   pub run-never-lost : {e : Env} {d : ℕ} {m : Tally} {t : Ptr} → RunLoses e d m t → Sane e (m .store) → InScope (m .store) (depthOf e) t → ⊥
   run-never-lost (no-head q) sane i = head-found sane i q
-  run-never-lost (in-trying s y) sane i =
-      let h = spine-in (sane .pass) i none-in s in
-      try-never-lost y sane (rules-safe sane (h .head) (h .arguments))
+  run-never-lost (in-trying s y) sane i = try-never-lost y sane (term-safe sane i s)
   run-never-lost (in-paying s c q) sane i =
-      let h = spine-in (sane .pass) i none-in s in
-      let k = comes-keep c sane (rules-safe sane (h .head) (h .arguments)) in
+      let k = comes-keep c sane (term-safe sane i s) in
       rows-found (k .sane) (k .end) q
   run-never-lost (in-the-rest s c p r) sane i =
-      let h = spine-in (sane .pass) i none-in s in
-      let k = comes-keep c sane (rules-safe sane (h .head) (h .arguments)) in
+      let k = comes-keep c sane (term-safe sane i s) in
       let q = pays-keep (k .sane) (k .end) p in
       run-never-lost r (q .sane) (q .term)
 
@@ -173,10 +174,7 @@ mutual
       try-never-lost y (sane-later (ext-grow (m .store) ws) a sane) (f a)
   try-never-lost (in-side r) sane (safe-reduces i f) = run-never-lost r sane i
   try-never-lost (no-side-head r q) sane (safe-reduces i f) = let k = runs-keep r sane i in head-found (k .sane) (k .term) q
-  try-never-lost (past-side {h = h} r s y) sane (safe-reduces i f) =
-      let k = runs-keep r sane i in
-      let q = spine-in (k .sane .pass) (k .term) none-in s in
-      try-never-lost y (k .sane) (f _ _ _ (k .more) (k .sane .pass) (pass-worded (k .sane .pass) .each (h .row)) (q .arguments))
+  try-never-lost (past-side r s y) sane (safe-reduces i f) = let k = runs-keep r sane i in try-never-lost y (k .sane) (after-side k s f)
 
 pub eval-never-lost : {e : Env} {lim : Limits} {s : Store} {t : Ptr} (nesting : ℕ) → Ready e lim s t → eval e lim nesting s t ≡ lost → ⊥
 eval-never-lost {e} {lim} nesting r q = run-never-lost (eval-lost e lim (r .room) q) (r .sane) (r .term)

@@ -235,9 +235,10 @@ by-rule-in {s} {d} {xs} o c closed h hs q =
     let fs = given-some (lastOf n ys) _ (r .then) in
     let last = provided-some (leb n (length ys)) (some (drop (length ys - n) ys)) (fs .first) in
     let i = rule-found (c .declaration) (o .rules) (r .first) in
+    let fields-in = subst (AllIn s d) (some-same last) (drop-in (length ys - n) hs) in
     subst (RuledIn s d) (some-same (fs .then)) (record {
       value = closed-in d (closed (i .position) (r .it) (i .found));
-      arguments = append-in (append-in (take-in (beforeIndices o) h) (subst (AllIn s d) (some-same last) (drop-in (length ys - n) hs))) (drop-in (suc (majorPosition o)) h);
+      arguments = append-in (append-in (take-in (beforeIndices o) h) fields-in) (drop-in (suc (majorPosition o)) h);
     })
 
 -- ARITHMETIC

@@ -2,12 +2,13 @@
 -- Shows that the rules at the head of a term in scope are safe, a lemma for each rule. Assumes a sane store.
 use Prim.Native.Nat.{ℕ, _+_}
 use mathlib.Core.Path.{_≡_, refl}
-use mathlib.Core.List.{List}
+use mathlib.Core.List.{List, []}
 use mathlib.Core.Option.{Option, none, some}
 use Rattle.rules.specs.Kinds.{sort, const, app, lam, pi, let′, proj, num}
 use Rattle.rules.specs.Rows.{Ptr, Row, var, node, Store, rowAt, up, grow}
 use Rattle.rules.specs.RowCheck.{AllPass, InScope}
 use Rattle.rules.specs.Declarations.{Decl, Env, declAt, valueOf}
+use Rattle.rules.specs.Spines.{Spine}
 use Rattle.rules.specs.Arithmetic.{compute}
 use Rattle.rules.specs.Firings.{Result}
 use Rattle.rules.specs.HeadTests.{fieldAt, quotParts, quotMade, recParts, asConstructor, byRule, asNumber, operands, outcome, unfolds}
@@ -16,7 +17,7 @@ use Rattle.substitution.specs.Stores.{Ext, ext-same, ext-then}
 use Rattle.substitution.specs.Passing.{Worded}
 use Rattle.promises.specs.Stores.{ext-grow}
 use Rattle.safety.specs.Sane.{depthOf, declCount, Sane, in-later, sane-later, closed-in}
-use Rattle.safety.specs.Scope.{AllIn, none-in, and-in, all-later, value-in, RowIn, row-in, lambda-body-in, let-value-in, let-body-in, structure-in, ResultIn, opened-in, itself-in}
+use Rattle.safety.specs.Scope.{AllIn, none-in, and-in, all-later, value-in, RowIn, row-in, lambda-body-in, let-value-in, let-body-in, structure-in, spine-in, ResultIn, opened-in, itself-in}
 use Rattle.safety.specs.Parts.{field-in, quot-in, made-in, rec-in, RowsIn, constructor-in, by-rule-in, operands-in, outcome-in, unfolds-to}
 
 -- with D declarations, at depth d; what follows rows or a side reduction is asked only of stores whose rows pass
@@ -28,12 +29,18 @@ pub data Safe (D d : ℕ) : Store → Try → Type 0 where
       ((s′ : Store) (w : Row) (ys : List Ptr) → Ext s s′ → AllPass D s′ → Worded D w → AllIn s′ d ys → Safe D d s′ (y s′ w ys)) →
       Safe D d s (reduces p y)
 
-safe-with : {A : Type 0} {D d : ℕ} {s : Store} (o : Option A) (next : A → Try) → ((a : A) → o ≡ some a → Safe D d s (next a)) → Safe D d s (with-it o next)
+-- what may follow a side reduction from s on: the head's row is worded, its arguments are in scope
+abbrev pub Follows : (D d : ℕ) → Store → (Store → Row → List Ptr → Try) → Type 0
+Follows D d s y = (s′ : Store) (w : Row) (ys : List Ptr) → Ext s s′ → AllPass D s′ → Worded D w → AllIn s′ d ys → Safe D d s′ (y s′ w ys)
+
+safe-with : {A : Type 0} {D d : ℕ} {s : Store} (o : Option A) (next : A → Try) →
+    ((a : A) → o ≡ some a → Safe D d s (next a)) → Safe D d s (with-it o next)
 safe-with none next k = safe-none
 safe-with (some a) next k = k a refl
 
 -- the next rule is tried from whatever store the first left
-safe-else : {D d : ℕ} {s : Store} {y : Try} (z : Try) → AllPass D s → Safe D d s y → ((s′ : Store) → Ext s s′ → AllPass D s′ → Safe D d s′ z) → Safe D d s (y or-else z)
+safe-else : {D d : ℕ} {s : Store} {y : Try} (z : Try) →
+    AllPass D s → Safe D d s y → ((s′ : Store) → Ext s s′ → AllPass D s′ → Safe D d s′ z) → Safe D d s (y or-else z)
 unfolding _or-else_
 safe-else {s = s} z a safe-none k = k s (ext-same s) a
 safe-else z a (safe-fires r h) k = safe-fires r h
@@ -132,3 +139,8 @@ pub rules-safe : {e : Env} {s : Store} {h : Ptr} {xs : List Ptr} → Sane e s �
     Safe (declCount e) (depthOf e) s (rules e s h xs)
 unfolding rules
 rules-safe {s = s} {h = h} sane i args = safe-row (h .shift) (rowAt s (h .row)) sane args (row-in (sane .pass) i)
+
+-- at the head of a term in scope
+pub term-safe : {e : Env} {s : Store} {t h : Ptr} {xs : List Ptr} → Sane e s → InScope s (depthOf e) t → Spine s t [] h xs →
+    Safe (declCount e) (depthOf e) s (rules e s h xs)
+term-safe sane i q = let k = spine-in (sane .pass) i none-in q in rules-safe sane (k .head) (k .arguments)

@@ -11,7 +11,7 @@ use lib.ListN.{length, List·getD-eq-default}
 use lib.Dec.{eqb}
 use Rattle.rules.specs.Rows.{Ptr, Cell, Store, boundOn}
 use Rattle.rules.specs.RowCheck.{AllPass, InScope}
-use Rattle.rules.specs.Declarations.{Role, roleCode, Rule, Recursor, Form, recursor, Decl, Entry, Env, nth, declAt, holderOn, holderFrom, holder, valueOn, valueOf}
+use Rattle.rules.specs.Declarations.{Role, roleCode, Rule, Recursor, Form, plain, recursor, Decl, Entry, Env, nth, declAt, holderOn, holderFrom, holder, valueOn, valueOf}
 use Rattle.rules.specs.Accepted.{Lent, Closed, FormOk, recursor-ok, libraryRows, Accepted}
 use Rattle.rules.specs.Refusals.{Limits}
 use Rattle.rules.specs.Call.{limitsOf}
@@ -29,7 +29,8 @@ declCount e = length (e .decls)
 pub record Sane (e : Env) (s : Store) : Type 0 where
   pub pass : AllPass (declCount e) s
   pub value : (d : ℕ) (v : Ptr) → declAt (e .decls) d .value ≡ some v → Closed s (length s) v
-  pub rule : (d : ℕ) (o : Recursor) (i : ℕ) (ρ : Rule) → declAt (e .decls) d .form ≡ recursor o → nth (o .rules) i ≡ some ρ → Closed s (length s) (ρ .value)
+  pub rule : (d : ℕ) (o : Recursor) (i : ℕ) (ρ : Rule) →
+      declAt (e .decls) d .form ≡ recursor o → nth (o .rules) i ≡ some ρ → Closed s (length s) (ρ .value)
   pub context : (i : ℕ) (v : Ptr) → valueOf e i ≡ some v → InScope s (depthOf e - suc i) v
 
 -- a term in scope is asked over a sane store that the limits allow
@@ -77,7 +78,8 @@ unfolding holderFrom
 holder-from n r [] q = absurd (none-some q)
 holder-from n r (x ∷ ds) {d} q = on (eqb (roleCode (x .role)) (roleCode r)) q (λ q′. holder-from (suc n) r ds q′)
   where
-    on : (b : Bool) → holderOn b (some n) (holderFrom (suc n) r ds) ≡ some d → (holderFrom (suc n) r ds ≡ some d → d < suc n + length ds) → d < n + length (x ∷ ds)
+    on : (b : Bool) →
+        holderOn b (some n) (holderFrom (suc n) r ds) ≡ some d → (holderFrom (suc n) r ds ≡ some d → d < suc n + length ds) → d < n + length (x ∷ ds)
     on true q′ ih = omega (arith, some-same q′)
     on false q′ ih = omega (arith, ih q′)
 
@@ -85,26 +87,56 @@ pub holder-below : (e : Env) (r : Role) {d : ℕ} → holder e r ≡ some d → 
 unfolding holder
 holder-below e r q = omega (arith, holder-from 0 r (e .decls) q)
 
--- ACCEPTED INPUT
+-- FROM THE LISTS OF DECLARATIONS AND RECORDS
+
+-- what a declaration names is closed
+pub record DeclIn (s : Store) (x : Decl) : Type 0 where
+  pub value : (v : Ptr) → x .value ≡ some v → Closed s (length s) v
+  pub rule : (o : Recursor) (i : ℕ) (ρ : Rule) → x .form ≡ recursor o → nth (o .rules) i ≡ some ρ → Closed s (length s) (ρ .value)
+
+plain-recursor : {o : Recursor} → plain ≡ recursor o → ⊥
+plain-recursor q = let z : _≡_ {A = ℕ} 0 1 = cc in omega arith
 
 -- past the declarations stands an axiom without a value
-no-value : (ds : List Decl) (d : ℕ) {v : Ptr} → length ds ≤ d → declAt ds d .value ≡ some v → ⊥
+past-in : (s : Store) (ds : List Decl) (d : ℕ) → length ds ≤ d → DeclIn s (declAt ds d)
 unfolding declAt
-no-value ds d h q = none-some (ap (λ (x : Decl). x .value) (sym (List·getD-eq-default ds _ h)) ∙ q)
-
-no-recursor : (ds : List Decl) (d : ℕ) {o : Recursor} → length ds ≤ d → declAt ds d .form ≡ recursor o → ⊥
-unfolding declAt
-no-recursor ds d {o} h q = let z = ap (λ (x : Decl). x .form) (sym (List·getD-eq-default ds _ h)) ∙ q in let n : _≡_ {A = ℕ} 0 1 = cc in omega arith
-
-rule-closed : {words : List ℕ} {s : Store} {L : ℕ} {φ : Form} {o : Recursor} → FormOk words s L φ → φ ≡ recursor o → (i : ℕ) (ρ : Rule) → nth (o .rules) i ≡ some ρ → Closed s L (ρ .value)
-rule-closed {words} {s} {L} {o = o} f q = on (subst (FormOk words s L) q f)
-  where
-    on : FormOk words s L (recursor o) → (i : ℕ) (ρ : Rule) → nth (o .rules) i ≡ some ρ → Closed s L (ρ .value)
-    on (recursor-ok c v) = v
+past-in s ds d h =
+    let same = sym (List·getD-eq-default ds _ h) in
+    record {
+      value = λ v q. absurd (none-some (ap (λ (x : Decl). x .value) same ∙ q));
+      rule = λ o i ρ q. absurd (plain-recursor (ap (λ (x : Decl). x .form) same ∙ q));
+    }
 
 entry-valued : {v : Ptr} (o : Option Entry) → valueOn o ≡ some v → (x : Entry) × (o ≡ some x) × (x .value ≡ some v)
 entry-valued none q = absurd (none-some q)
 entry-valued (some x) q = (x, refl, q)
+
+module _ (e : Env) (s : Store) (decls : (j : ℕ) → j < declCount e → DeclIn s (declAt (e .decls) j))
+    (values : (j : ℕ) (x : Entry) (v : Ptr) → nth (e .context) j ≡ some x → x .value ≡ some v → InScope s j v) where
+  decl-in : (d : ℕ) → Dec (d < declCount e) → DeclIn s (declAt (e .decls) d)
+  decl-in d (yes h) = decls d h
+  decl-in d (no h) = past-in s (e .decls) d (omega arith)
+
+  context-in : (i : ℕ) (v : Ptr) → valueOf e i ≡ some v → InScope s (depthOf e - suc i) v
+  unfolding valueOf
+  context-in i v q = let x = entry-valued (nth (e .context) (depthOf e - suc i)) q in values (depthOf e - suc i) (x .0) v (x .1) (x .2)
+
+  pub sane-of : AllPass (declCount e) s → Sane e s
+  sane-of a = record {
+    pass = a;
+    value = λ d. decl-in d (decLt d (declCount e)) .value;
+    rule = λ d. decl-in d (decLt d (declCount e)) .rule;
+    context = context-in;
+  }
+
+-- ACCEPTED INPUT
+
+rule-closed : {words : List ℕ} {s : Store} {L : ℕ} {φ : Form} {o : Recursor} →
+    FormOk words s L φ → φ ≡ recursor o → (i : ℕ) (ρ : Rule) → nth (o .rules) i ≡ some ρ → Closed s L (ρ .value)
+rule-closed {words} {s} {L} {o = o} f q = on (subst (FormOk words s L) q f)
+  where
+    on : FormOk words s L (recursor o) → (i : ℕ) (ρ : Rule) → nth (o .rules) i ≡ some ρ → Closed s L (ρ .value)
+    on (recursor-ok c v) = v
 
 module _ {w : Lent} {e : Env} {s : Store} (a : Accepted w e s) where
   -- library rows and used scratch rows are the store
@@ -114,29 +146,18 @@ module _ {w : Lent} {e : Env} {s : Store} (a : Accepted w e s) where
   in-store : {p : Ptr} → Closed s (libraryRows w) p → Closed s (length s) p
   in-store c = record { there = omega (arith, c .there, rows-many); closed = c .closed; still = c .still }
 
-  decl-known : (d : ℕ) {v : Ptr} → declAt (e .decls) d .value ≡ some v → Dec (d < declCount e) → Closed s (length s) v
-  decl-known d {v} q (yes h) = in-store (a .declarations .rules d (omega (arith, h, a .declarations .many)) .value v q)
-  decl-known d q (no h) = absurd (no-value (e .decls) d (omega arith) q)
+  decl-known : (j : ℕ) → j < declCount e → DeclIn s (declAt (e .decls) j)
+  decl-known j h =
+      let ok = a .declarations .rules j (omega (arith, h, a .declarations .many)) in
+      record { value = λ v q. in-store (ok .value v q); rule = λ o i ρ q r. in-store (rule-closed (ok .form) q i ρ r) }
 
-  rule-known : (d : ℕ) (o : Recursor) (i : ℕ) (ρ : Rule) → declAt (e .decls) d .form ≡ recursor o → nth (o .rules) i ≡ some ρ → Dec (d < declCount e) → Closed s (length s) (ρ .value)
-  rule-known d o i ρ q r (yes h) = in-store (rule-closed (a .declarations .rules d (omega (arith, h, a .declarations .many)) .form) q i ρ r)
-  rule-known d o i ρ q r (no h) = absurd (no-recursor (e .decls) d (omega arith) q)
-
-  entry-known : (i : ℕ) (v : Ptr) → valueOf e i ≡ some v → InScope s (depthOf e - suc i) v
-  unfolding valueOf
-  entry-known i v q =
-      let j : ℕ = depthOf e - suc i in
-      let x = entry-valued (nth (e .context) j) q in
-      let inside = nth-inside (e .context) j (x .1) in
-      a .records .rules j (omega (arith, inside, a .records .many)) .value (x .0) v (x .1) (x .2)
+  entry-known : (j : ℕ) (x : Entry) (v : Ptr) → nth (e .context) j ≡ some x → x .value ≡ some v → InScope s j v
+  entry-known j x v q r = a .records .rules j (omega (arith, nth-inside (e .context) j q, a .records .many)) .value x v q r
 
   pub accepted-sane : Sane e s
-  accepted-sane = record {
-    pass = subst (λ (D : ℕ). AllPass D s) (sym (a .declarations .many)) (record { each = λ n h. a .rows .rules n (omega (arith, h, rows-many)) });
-    value = λ d v q. decl-known d q (decLt d (declCount e));
-    rule = λ d o i ρ q r. rule-known d o i ρ q r (decLt d (declCount e));
-    context = entry-known;
-  }
+  accepted-sane =
+      sane-of e s decl-known entry-known
+      (subst (λ (D : ℕ). AllPass D s) (sym (a .declarations .many)) (record { each = λ n h. a .rows .rules n (omega (arith, h, rows-many)) }))
 
   pub accepted-depth : depthOf e ≡ w .depth
   accepted-depth = a .records .many

@@ -10,7 +10,7 @@ use Rattle.rules.specs.Rows.{Ptr, Row, node, Cell, Store, cellAt, rowAt, boundO
 use Rattle.rules.specs.RowCheck.{AllPass, InScope}
 use Rattle.rules.specs.Spines.{Spine, head, through}
 use Rattle.rules.specs.Firings.{Result, opened, itself, a-number, a-constant, Due}
-use Rattle.rules.specs.ReadOut.{Tree, var, sort, const, num, shift, subst}
+use Rattle.rules.specs.ReadOut.{Reads, Tree, var, sort, const, num, shift, subst}
 use Rattle.rules.specs.ReadOut as T
 use Rattle.substitution.specs.Places.{Place, below, here, past, place}
 use Rattle.substitution.specs.Trees.{loose, subst-low, subst-here, subst-past}
@@ -128,7 +128,8 @@ module _ {D : ℕ} {s : Store} {d k : ℕ} {x y z : Ptr} where
 
   pub structure-in : {c i : ℕ} → RowIn D s d k (node (proj c i) x y z) → InScope s d (up s x k)
   unfolding cell fieldBound fields table
-  structure-in {c} {i} r = up-in k (term-child (first-ok (r .fields))) (λ h. shared (cell s (node (proj c i) x y z) .bound) (bound s x) k d (r .within) (omega arith) h)
+  structure-in {c} {i} r =
+      up-in k (term-child (first-ok (r .fields))) (λ h. shared (cell s (node (proj c i) x y z) .bound) (bound s x) k d (r .within) (omega arith) h)
 
 -- DOWN A SPINE
 
@@ -136,7 +137,8 @@ pub record SpineIn (s : Store) (d : ℕ) (h : Ptr) (ys : List Ptr) : Type 0 wher
   pub head : InScope s d h
   pub arguments : AllIn s d ys
 
-pub spine-in : {D : ℕ} {s : Store} {d : ℕ} {p h : Ptr} {xs ys : List Ptr} → AllPass D s → InScope s d p → AllIn s d xs → Spine s p xs h ys → SpineIn s d h ys
+pub spine-in : {D : ℕ} {s : Store} {d : ℕ} {p h : Ptr} {xs ys : List Ptr} →
+    AllPass D s → InScope s d p → AllIn s d xs → Spine s p xs h ys → SpineIn s d h ys
 spine-in a i q (head n) = record { head = i; arguments = q }
 spine-in {D} {s} {d} {p} a i q (through e c) =
     let r = along (RowIn D s d (p .shift)) e (row-in a i) in
@@ -152,6 +154,10 @@ shift-loose k c t = go (place (loose t) c)
     go (here h) = omega (arith, loose-shift k c t .low (omega arith))
     go (past h) = omega (arith, loose-shift k c t .high h)
 
+-- under a binder
+shifted-low : {n : ℕ} (u : Tree) → loose u ≤ n → loose (shift 1 0 u) ≤ suc n
+shifted-low u g = omega (arith, shift-loose 1 0 u)
+
 subst-loose : (u : Tree) (c n : ℕ) (t : Tree) → c ≤ n → loose t ≤ suc n → loose u ≤ n → loose (subst u c t) ≤ n
 unfolding loose subst
 subst-loose u c n (var i) l h g = go (place i c)
@@ -164,11 +170,13 @@ subst-loose u c n (sort v) l h g = omega arith
 subst-loose u c n (const e v) l h g = omega arith
 subst-loose u c n (T.app f a) l h g = omega (arith, subst-loose u c n f l (omega arith) g, subst-loose u c n a l (omega arith) g)
 subst-loose u c n (T.lam t b) l h g =
-    omega (arith, subst-loose u c n t l (omega arith) g, subst-loose (shift 1 0 u) (suc c) (suc n) b (omega arith) (omega arith) (omega (arith, shift-loose 1 0 u)))
+    omega (arith, subst-loose u c n t l (omega arith) g, subst-loose (shift 1 0 u) (suc c) (suc n) b (omega arith) (omega arith) (shifted-low u g))
 subst-loose u c n (T.pi t b) l h g =
-    omega (arith, subst-loose u c n t l (omega arith) g, subst-loose (shift 1 0 u) (suc c) (suc n) b (omega arith) (omega arith) (omega (arith, shift-loose 1 0 u)))
+    omega (arith, subst-loose u c n t l (omega arith) g, subst-loose (shift 1 0 u) (suc c) (suc n) b (omega arith) (omega arith) (shifted-low u g))
 subst-loose u c n (T.let′ t v b) l h g =
-    omega (arith, subst-loose u c n t l (omega arith) g, subst-loose u c n v l (omega arith) g, subst-loose (shift 1 0 u) (suc c) (suc n) b (omega arith) (omega arith) (omega (arith, shift-loose 1 0 u)))
+    let type = subst-loose u c n t l (omega arith) g in
+    let value = subst-loose u c n v l (omega arith) g in
+    omega (arith, type, value, subst-loose (shift 1 0 u) (suc c) (suc n) b (omega arith) (omega arith) (shifted-low u g))
 subst-loose u c n (T.proj e i x) l h g = subst-loose u c n x l h g
 subst-loose u c n (num v) l h g = omega arith
 
@@ -205,6 +213,12 @@ result-good number-in = number-good
 result-good (constant-in h) = constant-good h
 
 -- a pointer in scope reads as a tree that has no loose index from the depth on
+in-low : {s : Store} {d : ℕ} {p : Ptr} {t : Tree} → Formed s → InScope s d p → Reads s p t → loose t ≤ d
+in-low f i r = omega (arith, bound-is-loose f (scope-good i) r, i .within)
+
+body-low : {s : Store} {d k : ℕ} {b : Ptr} {t : Tree} → Formed s → BodyIn s d k b → Reads s b t → 1 < loose t → loose t + k ≤ suc d
+body-low f b r h = let same = bound-is-loose f (b .good) r in omega (arith, same, b .within (omega arith))
+
 record ReadLow (s : Store) (d : ℕ) (r : Result) : Type 0 where
   tree : Tree
   reads : ResultReads s r tree
@@ -218,12 +232,11 @@ result-low {d = d} f (opened-in {k = k} b v) =
     record {
       tree = subst (u .tree) 0 (shift k 1 (t .tree));
       reads = opened-reads (record { base = t .tree; good = b .good; reads = t .reads; is = refl }) (scope-good v) (u .reads) refl;
-      low = opened-loose (u .tree) (t .tree) k d (λ h. omega (arith, bound-is-loose f (b .good) (t .reads), b .within (omega (arith, bound-is-loose f (b .good) (t .reads)))))
-          (omega (arith, bound-is-loose f (scope-good v) (u .reads), v .within));
+      low = opened-loose (u .tree) (t .tree) k d (body-low f b (t .reads)) (in-low f v (u .reads));
     }
 result-low f (itself-in i) =
     let r = reads-exists f (scope-good i) in
-    record { tree = r .tree; reads = itself-reads (scope-good i) (r .reads); low = omega (arith, bound-is-loose f (scope-good i) (r .reads), i .within) }
+    record { tree = r .tree; reads = itself-reads (scope-good i) (r .reads); low = in-low f i (r .reads) }
 result-low f (number-in {n = n}) = record { tree = num n; reads = number-reads; low = omega arith }
 result-low f (constant-in {c = c} h) = record { tree = const c 0; reads = constant-reads; low = omega arith }
 
@@ -237,9 +250,10 @@ all-low f none-in = record { trees = []; reads = none-left; low = none-low }
 all-low f (and-in i is) =
     let r = reads-exists f (scope-good i) in
     let c = all-low f is in
-    record { trees = r .tree ∷ c .trees; reads = and-then (scope-good i) (r .reads) (c .reads); low = and-low {u = r .tree} (omega (arith, bound-is-loose f (scope-good i) (r .reads), i .within)) (c .low) }
+    record { trees = r .tree ∷ c .trees; reads = and-then (scope-good i) (r .reads) (c .reads); low = and-low {u = r .tree} (in-low f i (r .reads)) (c .low) }
 
-pub due-in : {D : ℕ} {s : Store} {d : ℕ} {r : Result} {xs : List Ptr} {g : Got} → Formed s → ResultIn D s d r → AllIn s d xs → Due s r xs g → InScope (g .store) d (g .at)
+pub due-in : {D : ℕ} {s : Store} {d : ℕ} {r : Result} {xs : List Ptr} {g : Got} →
+    Formed s → ResultIn D s d r → AllIn s d xs → Due s r xs g → InScope (g .store) d (g .at)
 due-in f i is q =
     let r = result-low f i in
     let c = all-low f is in

@@ -7,7 +7,7 @@ use mathlib.Core.List.{List, [], _∷_, _++_}
 use mathlib.Core.Option.{Option, some}
 use lib.ListN.{length, take, drop, length-append}
 use lib.Seq.{take-add, drop-drop}
-use Rattle.rules.specs.Kinds.{app, table}
+use Rattle.rules.specs.Kinds.{app}
 use Rattle.rules.specs.Rows as rules
 use Rattle.rules.specs.Rows.{Row, Store, Got, got, put, node, blank, cell}
 use Rattle.rules.specs.RowCheck.{AllPass, InScope}
@@ -19,22 +19,12 @@ use Rattle.ways.specs.Spines.{argsOf}
 use Rattle.rows.specs.declared.Ptr.{Ptr}
 use Rattle.rows.specs.declared.Out.{Out}
 use Rattle.rows.specs.declared.Out.the-variants.{Done, Refused}
-use Rattle.rows.specs.Words.{ptrOf, tagsAt, rowOf, storeOf, whole, Held}
-use Rattle.rows.specs.Checks.{used}
-use Rattle.rows.specs.Writes.{Wrote, Due}
-use Rattle.rows.proofs.Formed.{pair, shape, two-pairs}
+use Rattle.rows.specs.Words.{ptrOf, storeOf, whole, Held}
+use Rattle.rows.specs.Writes.{Wrote}
 use Rattle.rows.proofs.Store.{held-length}
 use Rattle.rows.proofs.InTurn.{wrote-nothing, done-held, done-prefix, wrote-then}
 use Rattle.spine.specs.Walks.{Argument, Counted, Applies, runIn}
 use Rattle.spine.proofs.ForCallers.{may-ask, argument-is, argument-scope}
-
--- ONE APPLICATION ROW
-
-pub app-due : (n : ℕ) (f a : Ptr) → f .row < n → a .row < n → Due n (shape 3 f a (pair 0 0))
-unfolding tagsAt table used
-app-due n f a f-there a-there =
-    let formed = two-pairs 3 f a (omega arith) (omega arith) in
-    record { kind = formed .kind; tidy = formed .tidy; first = λ _. f-there; second = λ _. a-there; third = λ child. absurd (child refl) }
 
 -- a row that was written stands below the new mark
 put-there : (most : ℕ) (s : Store) (w : Row) (g : Got) → course.wrote g ≡ putIn most s w → g .at .row < length (g .store)

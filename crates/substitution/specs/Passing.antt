@@ -27,7 +27,7 @@ pub record AllSized (s : Store) : Type 0 where
 
 -- THE ROW CHECK AND ITS PARTS
 
-row-fields : {D : ℕ} {s : Store} {n : ℕ} {w : Row} → RowOk D s n w → FieldsOk s n w
+pub row-fields : {D : ℕ} {s : Store} {n : ℕ} {w : Row} → RowOk D s n w → FieldsOk s n w
 row-fields (var-ok h) = var-fields
 row-fields (node-ok h a b c) = node-fields a b c
 

@@ -6,7 +6,7 @@ use Rattle.rules.specs.Rows.{cell, cellAt}
 use Rattle.rows.specs.Words.{whole}
 use Rattle.rows.specs.Checks.{sizesOf}
 use Rattle.rows.proofs.Lookup.{nine-read, children-read, sizes-read, bound-read, height-read}
-use Rattle.rows.proofs.RowRules.{other-bound, other-height, large-bound, right-sizes}
+use Rattle.rows.proofs.RowRules.{other-bound, other-height, right-sizes}
 use Rattle.rows.proofs.row_check.sized.Statement.{statement}
 use Rattle.rows.proofs.row_check.sized.Tie as tie
 
@@ -37,8 +37,7 @@ shape-of-requires : tie.Need-shape-of-requires
 shape-of-requires c κs = nine-read _ _ _ (search needs) _ (c .row-at .ensures)
 
 sizes-of-requires : tie.Need-sizes-of-requires
-sizes-of-requires c κs =
-    children-read _ _ _ (search needs) _ (c .before .row-at .ensures) _ (c .shape-of .ensures) (c .before .before .before .before .pre .1)
+sizes-of-requires c κs = children-read _ _ _ (search needs) _ (c .before .row-at .ensures) _ (c .shape-of .ensures) (c .before .before .before .before .pre .1)
 
 bound-of-requires : tie.Need-bound-of-requires
 bound-of-requires c κs = nine-read _ _ _ (search needs) _ (c .before .before .row-at .ensures)
@@ -61,15 +60,15 @@ returns-2 c =
     let first = read .before .before .before in
     other-height _ _ _ (gives (first .before)) _ (is-height read) (c .if2 .taken)
 
-returns-3 : tie.Need-returns-3
-returns-3 c = let first = c .before .before .before .before .before .before .before in large-bound _ _ _ (gives (first .before)) (c .if3 .taken)
+within-requires : tie.Need-within-requires
+within-requires c κs = search needs
 
-returns-4 : tie.Need-returns-4
-returns-4 c =
-    let second = c .before .before .before in
+returns-3 : tie.Need-returns-3
+returns-3 c =
+    let second = c .before in
     let read = second .before .before in
     let first = read .before .before .before in
-    right-sizes _ _ _ (gives (first .before)) (read .before .if1 .left ∙ sym (is-bound first)) (second .if2 .left ∙ sym (is-height read)) (search needs)
+    right-sizes _ _ _ (gives (first .before)) (read .before .if1 .left ∙ sym (is-bound first)) (second .if2 .left ∙ sym (is-height read)) (c .within .ensures)
 
 pub sized-spec : {M : Type 1} → statement M
 sized-spec =
@@ -84,5 +83,5 @@ sized-spec =
     height-of-requires
     cast-if2
     returns-2
-    returns-3
-    returns-4)
+    within-requires
+    returns-3)

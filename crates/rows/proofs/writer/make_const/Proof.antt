@@ -1,7 +1,7 @@
 -- `rows::writer::make_const` meets its contract: a constant has no children, and its row is the rules'.
 -- Assumes nothing.
 use borrow.Author.Needs.{needs}
-use Rattle.rows.proofs.Leaves.{const-due, const-row-is}
+use Rattle.rows.proofs.DueRows.{const-due, const-row-is}
 use Rattle.rows.proofs.writer.make_const.Statement.{statement}
 use Rattle.rows.proofs.writer.make_const.Tie as tie
 

@@ -1,7 +1,7 @@
 -- `rows::writer::make_number` meets its contract: a number has no children, and its row is the rules'.
 -- Assumes nothing.
 use borrow.Author.Needs.{needs}
-use Rattle.rows.proofs.Leaves.{number-due, number-row-is}
+use Rattle.rows.proofs.DueRows.{number-due, number-row-is}
 use Rattle.rows.proofs.writer.make_number.Statement.{statement}
 use Rattle.rows.proofs.writer.make_number.Tie as tie
 

@@ -1,7 +1,7 @@
 -- `rows::writer::make_sort` meets its contract: a sort has no children, and its row is the rules'.
 -- Assumes nothing.
 use borrow.Author.Needs.{needs}
-use Rattle.rows.proofs.Leaves.{sort-due, sort-row-is}
+use Rattle.rows.proofs.DueRows.{sort-due, sort-row-is}
 use Rattle.rows.proofs.writer.make_sort.Statement.{statement}
 use Rattle.rows.proofs.writer.make_sort.Tie as tie
 

@@ -1,7 +1,7 @@
 -- `rows::writer::make_var` meets its contract: a variable has no children, and its row is the rules'.
 -- Assumes nothing.
 use borrow.Author.Needs.{needs}
-use Rattle.rows.proofs.Leaves.{var-due, var-row-is}
+use Rattle.rows.proofs.DueRows.{var-due, var-row-is}
 use Rattle.rows.proofs.writer.make_var.Statement.{statement}
 use Rattle.rows.proofs.writer.make_var.Tie as tie
 

@@ -1,28 +1,35 @@
--- `rows::writer::push` meets its contract: each test is one way out, and past all three the nine words are at the mark.
+-- `rows::writer::push` meets its contract: too large is 8, none free is 5, and past both the nine words are at the mark.
 -- Assumes nothing.
 use borrow.Author.Needs.{needs}
+use native.Mathlib.Omega.{arith}
 use mathlib.Core.Path.{refl}
 use Prim.Native.Nat.{_*_}
+use borrow.Author.Tests.{not-true, not-false}
 use Rattle.rows.specs.Words.{wordsOf}
-use Rattle.rows.specs.Writes.{wide, high, full, fits}
+use Rattle.rows.specs.Checks.{Within}
+use Rattle.rows.specs.Writes.{too-large, none-free, at-mark}
 use Rattle.rows.proofs.Writing.{pasted}
 use Rattle.rows.proofs.writer.push.Statement.{statement}
 use Rattle.rows.proofs.writer.push.Tie as tie
 
-returns : tie.Need-returns
-returns c = wide (c .if1 .taken)
-
-returns-2 : tie.Need-returns-2
-returns-2 c = high (search needs) (c .if2 .taken)
-
 mul-at : tie.Need-mul-at
 mul-at c = search needs
 
-add-if3 : tie.Need-add-if3
-add-if3 c = search needs
+add-end : tie.Need-add-end
+add-end c = search needs
 
-returns-3 : tie.Need-returns-3
-returns-3 c = full (search needs) (search needs) (c .if3 .taken)
+within-requires : tie.Need-within-requires
+within-requires c κs = search needs
+
+returns : tie.Need-returns
+returns c = too-large (c .before .within .ensures .no (not-true _ (c .if1 .taken)))
+
+-- past the first test the sizes are within the maxima
+small : (c : tie.Else1) → Within (c .before .before .before .args .size)
+small c = c .before .within .ensures .yes (not-false _ (c .if1 .left))
+
+returns-2 : tie.Need-returns-2
+returns-2 c = none-free (small (c .before)) (c .if2 .taken)
 
 mul-fill : tie.Need-mul-fill
 mul-fill c = search needs
@@ -37,37 +44,38 @@ part-fill-end : tie.Need-part-fill-end
 part-fill-end c = search needs
 
 cast-fill : tie.Need-cast-fill
-cast-fill c = search needs
+cast-fill c = let size = small (c .before .before .before) in omega arith
 
 cast-fill-2 : tie.Need-cast-fill-2
-cast-fill-2 c = search needs
+cast-fill-2 c = let size = small (c .before .before .before .before) in omega arith
 
 fill-requires : tie.Need-fill-requires
 fill-requires c κs = search needs
 
-add-t14 : tie.Need-add-t14
-add-t14 c = search needs
+add-t16 : tie.Need-add-t16
+add-t16 c = search needs
 
-add-t15 : tie.Need-add-t15
-add-t15 c = search needs
+add-t17 : tie.Need-add-t17
+add-t17 c = search needs
 
 same-length : tie.Need-same-length
 same-length c = search needs
 
-returns-4 : tie.Need-returns-4
-returns-4 c =
-    let args = c .before .before .before .before .before .before .before .before .before .before .before .before .args in
-    fits (search needs) (search needs) (search needs) refl (pasted (args .scratch .now) (wordsOf (args .w) (args .size .bound) (args .size .height)) _ (9 * args .mark) (search needs) (c .before .before .fill .ensures))
+returns-3 : tie.Need-returns-3
+returns-3 c =
+    let room = c .before .before .before .before .before .before in
+    let args = room .before .before .before .before .args in
+    at-mark (small (room .before)) (room .if2 .left) refl (pasted (args .scratch .now) (wordsOf (args .w) (args .size .bound) (args .size .height)) _ (9 * args .mark) (search needs) (c .before .before .fill .ensures))
 
 pub push-spec : {M : Type 1} → statement M
 push-spec =
     tie.close
     (tie.spec
+    mul-at
+    add-end
+    within-requires
     returns
     returns-2
-    mul-at
-    add-if3
-    returns-3
     mul-fill
     sub-fill
     part-fill-start
@@ -75,7 +83,7 @@ push-spec =
     cast-fill
     cast-fill-2
     fill-requires
-    add-t14
-    add-t15
+    add-t16
+    add-t17
     same-length
-    returns-4)
+    returns-3)

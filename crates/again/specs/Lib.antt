@@ -1,0 +1,12 @@
+pub mod Embeds
+pub mod Carried
+pub mod Alike
+pub mod Tests
+pub mod Twins
+pub mod Embedding
+pub mod Renamed
+pub mod Course
+pub mod Simulation
+pub mod Keeps
+pub mod Again
+pub mod OnCall

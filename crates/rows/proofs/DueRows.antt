@@ -1,0 +1,112 @@
+-- Which kinds and pairs are due, kind by kind, and the rules' rows that they are: what a caller of the row writer shows and learns.
+-- Assumes nothing.
+use Prim.Native.Nat.{ℕ, _≤_, _<_}
+use native.Mathlib.Omega.{arith}
+use mathlib.Core.Path.{_≡_, refl, ap}
+use Rattle.rules.specs.Kinds.{plain, Tags, tags, table, sort, const, app, lam, pi, let′, proj, num}
+use Rattle.rules.specs.Rows.{blank, var, node, leaf}
+use Rattle.rules.specs.Arithmetic.{wordsValue}
+use Rattle.rows.specs.declared.Ptr.{Ptr}
+use Rattle.rows.specs.Words.{ptrOf, kindOf, tagsAt, tagAt, rowBy, rowOf, leafShape}
+use Rattle.rows.specs.Checks.{used, Formed}
+use Rattle.rows.specs.Writes.{Due}
+use Rattle.rows.proofs.NineKinds.{each-kind}
+use Rattle.rows.proofs.Formed.{pair, shape, one-word, two-words, two-pairs, three-pairs}
+
+-- PLAIN WORDS
+
+leaf-due : (n k : ℕ) (p : Ptr) → Formed (leafShape k p) → tagsAt k ≡ tags plain plain plain → Due n (leafShape k p)
+leaf-due n k p f e = record {
+  kind = f .kind;
+  tidy = f .tidy;
+  first = λ child. absurd (child (ap (λ (t : Tags). t .first) e));
+  second = λ child. absurd (child (ap (λ (t : Tags). t .second) e));
+  third = λ child. absurd (child (ap (λ (t : Tags). t .third) e));
+}
+
+pub var-due : (n i : ℕ) → Due n (leafShape 0 (pair i 0))
+unfolding tagsAt table
+var-due n i = leaf-due n 0 (pair i 0) (one-word 0 i (omega arith)) refl
+
+pub sort-due : (n i : ℕ) → Due n (leafShape 1 (pair i 0))
+unfolding tagsAt table
+sort-due n i = leaf-due n 1 (pair i 0) (one-word 1 i (omega arith)) refl
+
+pub const-due : (n d i : ℕ) → Due n (leafShape 2 (pair d i))
+unfolding tagsAt table used
+const-due n d i = leaf-due n 2 (pair d i) (two-words 2 d i (omega arith) (omega arith)) refl
+
+pub number-due : (n low high : ℕ) → Due n (leafShape 8 (pair low high))
+unfolding tagsAt table used
+number-due n low high = leaf-due n 8 (pair low high) (two-words 8 low high (omega arith) (omega arith)) refl
+
+pub var-row-is : (i : ℕ) → rowOf (leafShape 0 (pair i 0)) ≡ var i
+unfolding rowBy
+var-row-is i = refl
+
+pub sort-row-is : (i : ℕ) → rowOf (leafShape 1 (pair i 0)) ≡ leaf (sort i)
+unfolding rowBy kindOf tagsAt table
+sort-row-is i = refl
+
+pub const-row-is : (d i : ℕ) → rowOf (leafShape 2 (pair d i)) ≡ leaf (const d i)
+unfolding rowBy kindOf tagsAt table
+const-row-is d i = refl
+
+pub number-row-is : (low high : ℕ) → rowOf (leafShape 8 (pair low high)) ≡ leaf (num (wordsValue low high))
+unfolding rowBy kindOf tagsAt table
+number-row-is low high = refl
+
+-- CHILDREN
+
+-- kinds 3 to 7 use the first two pairs
+uses-two : (k : ℕ) → k ≤ 8 → 3 ≤ k → k ≤ 7 → 4 ≤ used k
+unfolding used
+uses-two =
+    each-kind (λ (k : ℕ). 3 ≤ k → k ≤ 7 → 4 ≤ used k)
+    (λ h _. absurd (omega arith))
+    (λ h _. absurd (omega arith))
+    (λ h _. absurd (omega arith))
+    (λ _ _. omega arith)
+    (λ _ _. omega arith)
+    (λ _ _. omega arith)
+    (λ _ _. omega arith)
+    (λ _ _. omega arith)
+    (λ _ h. absurd (omega arith))
+
+-- an application, lambda or pi
+pub two-due : (n k : ℕ) (a b : Ptr) → 3 ≤ k → k ≤ 5 → a .row < n → b .row < n → Due n (shape k a b (pair 0 0))
+two-due n k a b low high first second =
+    let formed : Formed (shape k a b (pair 0 0)) = two-pairs k a b (omega arith) (uses-two k (omega arith) low (omega arith)) in
+    record { kind = formed .kind; tidy = formed .tidy; first = λ _. first; second = λ _. second; third = λ _. omega arith }
+
+pub let-due : (n : ℕ) (a b c : Ptr) → a .row < n → b .row < n → c .row < n → Due n (shape 6 a b c)
+unfolding used
+let-due n a b c first second third =
+    let formed : Formed (shape 6 a b c) = three-pairs 6 a b c (omega arith) (omega arith) in
+    record { kind = formed .kind; tidy = formed .tidy; first = λ _. first; second = λ _. second; third = λ _. third }
+
+pub proj-due : (n d i : ℕ) (a : Ptr) → a .row < n → Due n (shape 7 a (pair d i) (pair 0 0))
+unfolding used tagsAt table
+proj-due n d i a first =
+    let formed : Formed (shape 7 a (pair d i) (pair 0 0)) = two-pairs 7 a (pair d i) (omega arith) (omega arith) in
+    record { kind = formed .kind; tidy = formed .tidy; first = λ _. first; second = λ child. absurd (child refl); third = λ _. omega arith }
+
+pub app-row-is : (a b : Ptr) → rowOf (shape 3 a b (pair 0 0)) ≡ node app (ptrOf a) (ptrOf b) blank
+unfolding rowBy kindOf tagsAt table
+app-row-is a b = refl
+
+pub lam-row-is : (a b : Ptr) → rowOf (shape 4 a b (pair 0 0)) ≡ node lam (ptrOf a) (ptrOf b) blank
+unfolding rowBy kindOf tagsAt table
+lam-row-is a b = refl
+
+pub pi-row-is : (a b : Ptr) → rowOf (shape 5 a b (pair 0 0)) ≡ node pi (ptrOf a) (ptrOf b) blank
+unfolding rowBy kindOf tagsAt table
+pi-row-is a b = refl
+
+pub let-row-is : (a b c : Ptr) → rowOf (shape 6 a b c) ≡ node let′ (ptrOf a) (ptrOf b) (ptrOf c)
+unfolding rowBy kindOf tagsAt table
+let-row-is a b c = refl
+
+pub proj-row-is : (a : Ptr) (d i : ℕ) → rowOf (shape 7 a (pair d i) (pair 0 0)) ≡ node (proj d i) (ptrOf a) blank blank
+unfolding rowBy kindOf tagsAt table
+proj-row-is a d i = refl
