@@ -72,7 +72,7 @@ spine-scope f i o (head n) = record { head = i; arguments = o }
 spine-scope f i o (through q r) = spine-scope f (function-scope f q i) (and-more (argument-scope f q i) o) r
 
 -- THE SPINE EXISTS, and the evaluator finds it
-up-row : (b : ℕ) (p : Ptr) (k : ℕ) → upOn b p k .row ≡ p .row
+pub up-row : (b : ℕ) (p : Ptr) (k : ℕ) → upOn b p k .row ≡ p .row
 up-row zero p k = refl
 up-row (suc b) p k = refl
 
