@@ -1,8 +1,8 @@
 -- Two stores that agree on a row's children give the row the same bound and height, and so the row passes in both or in neither.
 -- Assumes nothing.
-use Prim.Native.Nat.{ℕ, zero, suc, _≤_, _<_, pred, max}
+use Prim.Native.Nat.{ℕ, zero, suc, _≤_, pred, max}
 use native.Mathlib.Omega.{arith}
-use mathlib.Core.Path.{_≡_, refl, sym, ap, ap₂, subst, _∙_}
+use mathlib.Core.Path.{_≡_, refl, sym, ap, subst, _∙_}
 use Rattle.rules.specs.Kinds.{Kind, Tag, plain, term, body, Tags, fields}
 use Rattle.rules.specs.Rows.{Ptr, Row, var, node, Cell, Store, cell, cellAt, rowAt, boundOn, fieldBound, fieldHeight}
 use Rattle.rules.specs.RowCheck.{ChildOk, FieldOk, plain-ok, term-ok, body-ok, RowOk, var-ok, node-ok, Fits, Passes}

@@ -2,13 +2,13 @@
 -- Assumes nothing.
 use Prim.Native.Nat.{ℕ, _≤_, _<_}
 use native.Mathlib.Omega.{arith}
-use mathlib.Core.Path.{_≡_, refl, ap}
+use mathlib.Core.Path.{_≡_, refl, ap, _∙_}
 use Rattle.rules.specs.Kinds.{plain, Tags, tags, table, sort, const, app, lam, pi, let′, proj, num}
 use Rattle.rules.specs.Rows.{blank, var, node, leaf}
 use Rattle.rules.specs.Arithmetic.{wordsValue}
 use Rattle.rows.specs.declared.Ptr.{Ptr}
 use Rattle.rows.specs.Words.{ptrOf, kindOf, tagsAt, tagAt, rowBy, rowOf, leafShape}
-use Rattle.rows.specs.Checks.{used, Formed}
+use Rattle.rows.specs.Checks.{used, Tidy, Formed}
 use Rattle.rows.specs.Writes.{Due}
 use Rattle.rows.proofs.NineKinds.{each-kind}
 use Rattle.rows.proofs.Formed.{pair, shape, one-word, two-words, two-pairs, three-pairs}
@@ -110,3 +110,68 @@ let-row-is a b c = refl
 pub proj-row-is : (a : Ptr) (d i : ℕ) → rowOf (shape 7 a (pair d i) (pair 0 0)) ≡ node (proj d i) (ptrOf a) blank blank
 unfolding rowBy kindOf tagsAt table
 proj-row-is a d i = refl
+
+-- A ROW AGAIN, WITH OTHER CHILDREN
+
+-- a field with an unused word is plain
+
+unused-first : (k : ℕ) → k ≤ 8 → used k < 2 → tagAt k 0 ≡ plain
+unfolding tagsAt table used
+unused-first =
+    each-kind (λ (k : ℕ). used k < 2 → tagAt k 0 ≡ plain)
+    (λ _. refl)
+    (λ _. refl)
+    (λ _. refl)
+    (λ h. absurd (omega arith))
+    (λ h. absurd (omega arith))
+    (λ h. absurd (omega arith))
+    (λ h. absurd (omega arith))
+    (λ h. absurd (omega arith))
+    (λ _. refl)
+
+unused-second : (k : ℕ) → k ≤ 8 → used k < 4 → tagAt k 1 ≡ plain
+unfolding tagsAt table used
+unused-second =
+    each-kind (λ (k : ℕ). used k < 4 → tagAt k 1 ≡ plain)
+    (λ _. refl)
+    (λ _. refl)
+    (λ _. refl)
+    (λ h. absurd (omega arith))
+    (λ h. absurd (omega arith))
+    (λ h. absurd (omega arith))
+    (λ h. absurd (omega arith))
+    (λ _. refl)
+    (λ _. refl)
+
+unused-third : (k : ℕ) → k ≤ 8 → used k < 6 → tagAt k 2 ≡ plain
+unfolding tagsAt table used
+unused-third =
+    each-kind (λ (k : ℕ). used k < 6 → tagAt k 2 ≡ plain)
+    (λ _. refl)
+    (λ _. refl)
+    (λ _. refl)
+    (λ _. refl)
+    (λ _. refl)
+    (λ _. refl)
+    (λ h. absurd (omega arith))
+    (λ _. refl)
+    (λ _. refl)
+
+-- a formed row whose children are replaced and whose plain fields stay is due again
+module _ (n k : ℕ) (a b c a′ b′ c′ : Ptr) (formed : Formed (shape k a b c))
+    (first : tagAt k 0 ≡ plain → a′ ≡ a) (second : tagAt k 1 ≡ plain → b′ ≡ b) (third : tagAt k 2 ≡ plain → c′ ≡ c) where
+  tidy-again : Tidy (shape k a′ b′ c′)
+  tidy-again =
+      let kind = formed .kind in
+      let tidy = formed .tidy in
+      record {
+        word2 = λ h. ap (λ (p : Ptr). p .shift) (first (unused-first k kind h)) ∙ tidy .word2 h;
+        word3 = λ h. ap (λ (p : Ptr). p .row) (second (unused-second k kind (omega arith))) ∙ tidy .word3 h;
+        word4 = λ h. ap (λ (p : Ptr). p .shift) (second (unused-second k kind h)) ∙ tidy .word4 h;
+        word5 = λ h. ap (λ (p : Ptr). p .row) (third (unused-third k kind (omega arith))) ∙ tidy .word5 h;
+        word6 = λ h. ap (λ (p : Ptr). p .shift) (third (unused-third k kind h)) ∙ tidy .word6 h;
+      }
+
+  pub due-again : ((tagAt k 0 ≡ plain → ⊥) → a′ .row < n) → ((tagAt k 1 ≡ plain → ⊥) → b′ .row < n) → ((tagAt k 2 ≡ plain → ⊥) → c′ .row < n) →
+      Due n (shape k a′ b′ c′)
+  due-again f g h = record { kind = formed .kind; tidy = tidy-again; first = f; second = g; third = h }

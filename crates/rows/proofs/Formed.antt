@@ -1,7 +1,6 @@
 -- When nine words are a row of the rules, and which: a kind up to 8, the words that it does not use 0, and then what `decode` says.
 -- Assumes nothing.
-use Prim.Native.Nat.{ℕ, zero, suc, _≤_, _<_}
-use native.Mathlib.Nat.{not-suc-le-zero}
+use Prim.Native.Nat.{ℕ, _≤_, _<_}
 use native.Mathlib.Omega.{arith}
 use mathlib.Core.Path.{_≡_, refl, sym, ap, subst}
 use mathlib.Core.List.{List, [], _∷_}
@@ -50,7 +49,16 @@ two-pairs k a b h u =
 
 pub three-pairs : (k : ℕ) (a b c : Ptr) → k ≤ 8 → 6 ≤ used k → Formed (shape k a b c)
 three-pairs k a b c h u =
-    record { kind = h; tidy = record { word2 = λ g. absurd (omega arith); word3 = λ g. absurd (omega arith); word4 = λ g. absurd (omega arith); word5 = λ g. absurd (omega arith); word6 = λ g. absurd (omega arith) } }
+    record {
+      kind = h;
+      tidy = record {
+        word2 = λ g. absurd (omega arith);
+        word3 = λ g. absurd (omega arith);
+        word4 = λ g. absurd (omega arith);
+        word5 = λ g. absurd (omega arith);
+        word6 = λ g. absurd (omega arith);
+      };
+    }
 
 pub row-formed : {ws : List ℕ} {x : Cell} → IsRow ws x → Formed (shapeAt ws)
 unfolding used

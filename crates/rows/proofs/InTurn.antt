@@ -7,16 +7,16 @@ use mathlib.Core.List.{List}
 use mathlib.Core.Logic.{⊎-elim}
 use lib.ListN.{length, take, drop}
 use lib.Seq.{take-take, drop-drop}
-use Rattle.rules.specs.Rows.{Cell, cellAt, got}
+use Rattle.rules.specs.Rows.{got}
 use Rattle.rules.specs.Accepted.{IsRow, part}
 use Rattle.course.specs.Charged as course
 use Rattle.rows.specs.declared.Ptr.{Ptr}
 use Rattle.rows.specs.declared.Out.{Out}
-use Rattle.rows.specs.declared.Out.the-variants.{Done, Refused}
+use Rattle.rows.specs.declared.Out.the-variants.{Done}
 use Rattle.rows.specs.Words.{ptrOf, decode, storeOf, wordsAt, Held}
-use Rattle.rows.specs.Writes.{outOf, Grown, Wrote}
+use Rattle.rows.specs.Writes.{AreRows, Grown, Wrote}
 use Rattle.rows.proofs.Parts.{lt-or-ge, part-same}
-use Rattle.rows.proofs.Store.{store-same}
+use Rattle.rows.proofs.Store.{by-place, words-in-library, words-in-scratch, store-same}
 
 -- a prefix of what is kept is kept
 fewer-kept : (xs ys : List ℕ) (a b : ℕ) → a ≤ b → take b xs ≡ take b ys → take a xs ≡ take a ys
@@ -46,6 +46,9 @@ grown-on sc sc₁ sc₂ m m₁ m₂ kept g h = record {
       (lt-or-ge i m₁);
 }
 
+abbrev IsWords : List ℕ → Type 0
+IsWords ws = IsRow ws (decode ws)
+
 -- a first write that was done, from mark m to m₁, and what follows from there
 module _ (l sc : List ℕ) (m : ℕ) (p : Ptr) (m₁ : ℕ) (sc₁ : List ℕ) (out₁ : course.Out) (first : Wrote l sc m (Done p m₁) sc₁ out₁) where
   first-grown : Grown sc m sc₁ m₁
@@ -63,6 +66,29 @@ module _ (l sc : List ℕ) (m : ℕ) (p : Ptr) (m₁ : ℕ) (sc₁ : List ℕ) (
   -- the old rows are the first of the new store
   pub done-prefix : storeOf l sc₁ m ≡ storeOf l sc m
   done-prefix = store-same l sc₁ sc m (first .kept)
+
+  module _ (nlib : ℕ) (held : Held l sc m nlib) (old : AreRows l sc m nlib) where
+    library-row : (k : ℕ) → k < nlib → IsWords (wordsAt l sc₁ k)
+    library-row k h =
+        let same : wordsAt l sc k ≡ wordsAt l sc₁ k = words-in-library l sc nlib (held .whole-library) k h ∙ sym (words-in-library l sc₁ nlib (held .whole-library) k h) in
+        subst IsWords same (old .each k (omega arith))
+
+    scratch-row : (i : ℕ) → i < m₁ → IsWords (part 9 sc₁ i)
+    scratch-row i h =
+        ⊎-elim
+        (λ (k : i < m).
+        let same : wordsAt l sc (nlib + i) ≡ part 9 sc₁ i = words-in-scratch l sc nlib (held .whole-library) i ∙ sym (part-same sc₁ sc m i (first .kept) k) in
+        subst IsWords same (old .each (nlib + i) (omega arith)))
+        (λ (k : m ≤ i). first-grown .rows i k h)
+        (lt-or-ge i m)
+
+    -- rows stay as the rules have them
+    pub done-are-rows : AreRows l sc₁ m₁ nlib
+    done-are-rows = record {
+      each = λ n.
+          by-place l sc₁ nlib (held .whole-library) (λ (k : ℕ). IsWords (wordsAt l sc₁ k)) m₁ n library-row
+          (λ i h. subst IsWords (sym (words-in-scratch l sc₁ nlib (held .whole-library) i)) (scratch-row i h));
+    }
 
   pub wrote-then : (r : Out) (sc₂ : List ℕ) (out : course.Out) → Wrote l sc₁ m₁ r sc₂ out → Wrote l sc m r sc₂ out
   wrote-then r sc₂ out second =

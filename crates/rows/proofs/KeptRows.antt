@@ -4,11 +4,11 @@
 use Prim.Native.Nat.{ℕ, zero, suc, _+_, _*_, _≤_, _<_}
 use native.Mathlib.Nat.{le-of-suc-le-suc, not-suc-le-zero}
 use native.Mathlib.Omega.{arith}
-use mathlib.Core.Path.{_≡_, refl, sym, ap, ap₂, subst, _∙_}
+use mathlib.Core.Path.{_≡_, refl, sym, ap, subst, _∙_}
 use mathlib.Core.List.{List, [], _∷_, _++_}
 use mathlib.Core.Logic.{⊎-elim}
-use mathlib.Core.Option.{Option, none, some}
-use lib.ListN.{length, getD, take, List·getD-append}
+use mathlib.Core.Option.{some}
+use lib.ListN.{length, take, List·getD-append}
 use lib.Seq.{length-take-le, take-all, getD-take, getD-at, ext-getD}
 use Rattle.rules.specs.Rows.{Cell, Store, cellAt}
 use Rattle.rules.specs.RowCheck.{Passes}
@@ -16,6 +16,7 @@ use Rattle.rules.specs.Declarations.{nth}
 use Rattle.rules.specs.Accepted.{IsRow, part, Keep, Lowest}
 use Rattle.rows.specs.Words.{decode, storeOf, whole, wordsAt, Held}
 use Rattle.rows.specs.Checks.{Right}
+use Rattle.rows.specs.Writes.{AreRows}
 use Rattle.rows.proofs.Parts.{lt-or-ge}
 use Rattle.rows.proofs.Store.{part-of-words, cell-stands, used-stands, cell-used, held-length, cell-is}
 use Rattle.rows.proofs.Formed.{is-decoded}
@@ -35,7 +36,7 @@ nth-cell [] i x e = absurd (let z : _≡_ {A = ℕ} 0 1 = cc in omega arith)
 nth-cell (y ∷ s) zero x e = cc
 nth-cell (y ∷ s) (suc i) x e = nth-cell s i x e
 
-cell-nth : (s : Store) (i : ℕ) → i < length s → nth s i ≡ some (cellAt s i)
+pub cell-nth : (s : Store) (i : ℕ) → i < length s → nth s i ≡ some (cellAt s i)
 unfolding nth cellAt
 cell-nth [] i h = absurd (not-suc-le-zero h)
 cell-nth (y ∷ s) zero h = refl
@@ -114,3 +115,12 @@ kept-store l sc m nlib held Ok s keep =
     λ i h.
     let below : i < nlib + m = omega (arith, keep .many) in
     is-decoded (keep .words i (cellAt s i) (cell-nth s i h)) ∙ ap decode (part-of-words l sc nlib (held .whole-library) m i below) ∙ sym (cell-is l sc nlib (held .whole-library) m i below)
+
+-- accepted words are rows
+pub kept-are-rows : (l sc : List ℕ) (m nlib : ℕ) → Held l sc m nlib → (Ok : Store → ℕ → Type 0) (s : Store) →
+    Keep 9 (l ++ take (9 * m) sc) IsRow Ok (nlib + m) s → AreRows l sc m nlib
+kept-are-rows l sc m nlib held Ok s keep = record {
+  each = λ n h.
+      let is : IsRow (part 9 (l ++ take (9 * m) sc) n) (cellAt s n) = keep .words n (cellAt s n) (cell-nth s n (omega (arith, keep .many))) in
+      subst (λ (ws : List ℕ). IsRow ws (decode ws)) (part-of-words l sc nlib (held .whole-library) m n h) (subst (λ (x : Cell). IsRow (part 9 (l ++ take (9 * m) sc) n) x) (is-decoded is) is);
+}

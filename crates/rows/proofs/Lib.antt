@@ -14,3 +14,4 @@ pub mod RowRules
 pub mod TidyWords
 pub mod RightRow
 pub mod KeptRows
+pub mod Determined

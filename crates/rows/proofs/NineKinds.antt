@@ -2,9 +2,9 @@
 -- Assumes nothing.
 use Prim.Native.Nat.{ℕ, zero, suc, _≤_, max}
 use native.Mathlib.Omega.{arith}
-use mathlib.Core.Path.{_≡_, refl, ap, _∙_}
-use Rattle.rules.specs.Kinds.{Tag, plain, term, body, Tags, table, fields}
-use Rattle.rules.specs.Rows.{Ptr, Cell, Store, cell, fieldBound, fieldHeight}
+use mathlib.Core.Path.{_≡_, refl, ap}
+use Rattle.rules.specs.Kinds.{Tag, plain, term, body, table, fields}
+use Rattle.rules.specs.Rows.{Ptr, node, Store, cell, fieldBound, fieldHeight}
 use Rattle.rows.specs.Words.{kindOf, tagsAt, tagAt, shown, rowBy}
 use Rattle.rows.specs.Checks.{tagCode}
 
@@ -25,6 +25,28 @@ pub fields-are : (k : ℕ) (a b : Ptr) → k ≤ 8 → fields (kindOf k a b) ≡
 unfolding fields table kindOf tagsAt
 fields-are k a b h =
     each-kind (λ (i : ℕ). fields (kindOf i a b) ≡ tagsAt i) refl refl refl refl refl refl refl refl refl k h
+
+pub row-node : (k : ℕ) (a b c : Ptr) → (k ≡ 0 → ⊥) →
+    rowBy k a b c ≡ node (kindOf k a b) (shown (tagAt k 0) a) (shown (tagAt k 1) b) (shown (tagAt k 2) c)
+unfolding rowBy
+row-node zero a b c f = absurd (f refl)
+row-node (suc k) a b c f = refl
+
+-- a kind's plain words stand in its plain fields alone
+pub kind-kept : (k : ℕ) (a b a′ b′ : Ptr) → k ≤ 8 → (tagAt k 0 ≡ plain → a′ ≡ a) → (tagAt k 1 ≡ plain → b′ ≡ b) → kindOf k a′ b′ ≡ kindOf k a b
+unfolding kindOf tagsAt table
+kind-kept k a b a′ b′ h =
+    each-kind (λ (i : ℕ). (tagAt i 0 ≡ plain → a′ ≡ a) → (tagAt i 1 ≡ plain → b′ ≡ b) → kindOf i a′ b′ ≡ kindOf i a b)
+    (λ _ _. refl)
+    (λ f _. ap (λ (p : Ptr). kindOf 1 p b) (f refl))
+    (λ f _. ap (λ (p : Ptr). kindOf 2 p b) (f refl))
+    (λ _ _. refl)
+    (λ _ _. refl)
+    (λ _ _. refl)
+    (λ _ _. refl)
+    (λ _ g. ap (λ (p : Ptr). kindOf 7 a p) (g refl))
+    (λ f _. ap (λ (p : Ptr). kindOf 8 p b) (f refl))
+    k h
 
 -- what a field adds is read from its pair, also where a plain word's pair is shown as blank
 pub bound-shown : (s : Store) (t : Tag) (p : Ptr) → fieldBound s t (shown t p) ≡ fieldBound s t p

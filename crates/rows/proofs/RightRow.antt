@@ -1,13 +1,13 @@
 -- A row that stands is right if its words are formed, its fields keep their rules and its sizes are exact: the three tests of a row.
 -- Assumes nothing.
-use Prim.Native.Nat.{ℕ, _*_, _≤_, _<_}
+use Prim.Native.Nat.{ℕ, _≤_, _<_}
 use native.Mathlib.Omega.{arith}
 use mathlib.Core.Path.{_≡_, sym, ap, subst, _∙_}
 use mathlib.Core.Bool.{Bool, true, false}
 use mathlib.Core.List.{List}
 use Rattle.rules.specs.Kinds.{Tag, plain}
-use Rattle.rules.specs.Rows.{Ptr, Row, Cell, Store, cellAt, rowAt}
-use Rattle.rules.specs.RowCheck.{FieldOk, RowOk, Passes}
+use Rattle.rules.specs.Rows.{Ptr, Row, Cell, cellAt, rowAt}
+use Rattle.rules.specs.RowCheck.{FieldOk, RowOk}
 use Rattle.rows.specs.declared.Shape.{Shape}
 use Rattle.rows.specs.Words.{ptrOf, shown, tagAt, rowOf, shapeAt, decode, whole, wordsAt, Stands, Children}
 use Rattle.rows.specs.Checks.{Formed, Sized, Says, Right}

@@ -1,14 +1,14 @@
 -- The row rules on a kind and three pairs: each part that the code tests, and that together they are the rules' own.
 -- Assumes nothing.
-use Prim.Native.Nat.{ℕ, zero, suc, _+_, _*_, _≤_, _<_}
+use Prim.Native.Nat.{ℕ, zero, suc, _≤_, _<_}
 use native.Mathlib.Omega.{arith}
 use mathlib.Core.Path.{_≡_, refl, sym, ap, subst, _∙_}
 use mathlib.Core.Bool.{Bool, true, false}
 use lib.Dec.{ltb, leb, eqb}
-use Rattle.rules.specs.Maxima.{most-index, most-level, most-levels, most-number, most-bound, most-height}
-use Rattle.rules.specs.Kinds.{Kind, sort, const, app, lam, pi, let′, proj, num, Tag, plain, term, body, Tags, table, fields}
-use Rattle.rules.specs.Rows.{Ptr, ptr, Row, var, node, Cell, Store, cell, cellAt}
-use Rattle.rules.specs.RowCheck.{InRange, sort-in, const-in, app-in, lam-in, pi-in, let-in, proj-in, num-in, ChildOk, FieldOk, plain-ok, term-ok, body-ok, RowOk, var-ok, node-ok, Fits}
+use Rattle.rules.specs.Maxima.{most-index, most-level, most-levels}
+use Rattle.rules.specs.Kinds.{Kind, sort, const, proj, Tag, plain, term, body, Tags, table, fields}
+use Rattle.rules.specs.Rows.{Ptr, Row, var, node, Cell, Store, cell, cellAt}
+use Rattle.rules.specs.RowCheck.{InRange, sort-in, const-in, app-in, lam-in, pi-in, let-in, proj-in, num-in, ChildOk, FieldOk, plain-ok, term-ok, body-ok, RowOk, var-ok, node-ok}
 use Rattle.rows.specs.declared.kinds.Sizes.{Sizes}
 use Rattle.rows.specs.Words.{kindOf, tagsAt, tagAt, shown, rowBy}
 use Rattle.rows.specs.Checks.{Ranged, var-ranged, node-ranged, Sized, Within, Says, sizesOf}

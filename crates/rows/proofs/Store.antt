@@ -1,18 +1,18 @@
 -- What the store of two slices holds: its length, each row as the nine words where it stands, and what a write at the mark does.
 -- Assumes nothing.
-use Prim.Native.Nat.{ℕ, zero, suc, _+_, _*_, _-_, _/_, _%_, _≤_, _<_}
+use Prim.Native.Nat.{ℕ, suc, _+_, _*_, _-_, _/_, _≤_, _<_}
 use native.Mathlib.Omega.{arith}
-use mathlib.Core.Path.{_≡_, refl, sym, ap, _∙_, subst}
+use mathlib.Core.Path.{_≡_, sym, ap, _∙_, subst}
 use mathlib.Core.List.{List, [], _∷_, _++_, append-assoc}
-use mathlib.Core.Logic.{_⊎_, inl, inr, ⊎-elim}
+use mathlib.Core.Logic.{_⊎_, ⊎-elim}
 use borrow.Author.Tests.{lt-ltb, le-ltb}
-use lib.ListN.{length, getD, take, drop, length-append, List·getD-append}
+use lib.ListN.{length, take, length-append, List·getD-append}
 use lib.Seq.{getD-append-add}
-use Rattle.rules.specs.Kinds.{sort}
 use Rattle.rules.specs.Rows as rules
-use Rattle.rules.specs.Rows.{Cell, Store, leaf, cellAt, bound, up}
+use Rattle.rules.specs.Rows.{Cell, Store, cellAt, rowAt, bound, up}
 use Rattle.rules.specs.Accepted.{part}
-use Rattle.rows.specs.Words.{decode, rowsOf, storeOf, whole, wordsAt, Stands, Held}
+use Rattle.rows.specs.declared.Shape.{Shape}
+use Rattle.rows.specs.Words.{rowOf, shapeAt, decode, rowsOf, storeOf, whole, wordsAt, Stands, Held}
 use Rattle.rows.proofs.Parts.{lt-or-ge, part-length, part-of-take, part-left, part-right, length-rowsOf, at-rowsOf, rowsOf-same, rowsOf-suc}
 
 -- a library of a rows
@@ -30,7 +30,7 @@ module _ (l sc : List ℕ) (a : ℕ) (rows : length l ≡ 9 * a) where
       simp (le-ltb _ _ past, at)
 
   -- what holds of each library row and each scratch row holds of each row
-  by-place : (P : ℕ → Type 0) (m n : ℕ) → ((k : ℕ) → k < a → P k) → ((i : ℕ) → i < m → P (a + i)) → n < a + m → P n
+  pub by-place : (P : ℕ → Type 0) (m n : ℕ) → ((k : ℕ) → k < a → P k) → ((i : ℕ) → i < m → P (a + i)) → n < a + m → P n
   by-place P m n f g h =
       ⊎-elim (λ (k : n < a). f n k)
       (λ (k : a ≤ n).
@@ -65,12 +65,25 @@ module _ (l sc : List ℕ) (a : ℕ) (rows : length l ≡ 9 * a) where
   unfolding cellAt
   cell-is m n =
       by-place (λ (k : ℕ). cellAt (storeOf l sc m) k ≡ decode (wordsAt l sc k)) m n
-      (λ k h. ap (λ (s : Store). cellAt s k) (store-is m) ∙ List·getD-append (rowsOf a l) (rowsOf m sc) _ k (omega (arith, length-rowsOf a l)) ∙ at-rowsOf a l k _ h ∙ ap decode (sym (words-in-library k h)))
-      (λ i h. ap (λ (s : Store). cellAt s (a + i)) (store-is m) ∙ ap (λ (k : ℕ). cellAt (rowsOf a l ++ rowsOf m sc) (k + i)) (sym (length-rowsOf a l)) ∙ getD-append-add (rowsOf a l) (rowsOf m sc) i _ ∙ at-rowsOf m sc i _ h ∙ ap decode (sym (words-in-scratch i)))
+      (λ k h.
+      ap (λ (s : Store). cellAt s k) (store-is m)
+      ∙ List·getD-append (rowsOf a l) (rowsOf m sc) _ k (omega (arith, length-rowsOf a l))
+      ∙ at-rowsOf a l k _ h
+      ∙ ap decode (sym (words-in-library k h)))
+      (λ i h.
+      ap (λ (s : Store). cellAt s (a + i)) (store-is m)
+      ∙ ap (λ (k : ℕ). cellAt (rowsOf a l ++ rowsOf m sc) (k + i)) (sym (length-rowsOf a l))
+      ∙ getD-append-add (rowsOf a l) (rowsOf m sc) i _
+      ∙ at-rowsOf m sc i _ h
+      ∙ ap decode (sym (words-in-scratch i)))
 
   -- a write at the mark appends its row
   pub store-suc : (m : ℕ) → storeOf l sc (suc m) ≡ storeOf l sc m ++ (decode (part 9 sc m) ∷ [])
-  store-suc m = store-is (suc m) ∙ ap (λ (s : Store). rowsOf a l ++ s) (rowsOf-suc m sc) ∙ sym (append-assoc (rowsOf a l) (rowsOf m sc) (decode (part 9 sc m) ∷ [])) ∙ ap (λ (s : Store). s ++ (decode (part 9 sc m) ∷ [])) (sym (store-is m))
+  store-suc m =
+      store-is (suc m)
+      ∙ ap (λ (s : Store). rowsOf a l ++ s) (rowsOf-suc m sc)
+      ∙ sym (append-assoc (rowsOf a l) (rowsOf m sc) (decode (part 9 sc m) ∷ []))
+      ∙ ap (λ (s : Store). s ++ (decode (part 9 sc m) ∷ [])) (sym (store-is m))
 
 -- the store reads the used scratch words alone
 pub store-same : (l sc sc′ : List ℕ) (m : ℕ) → take (9 * m) sc ≡ take (9 * m) sc′ → storeOf l sc m ≡ storeOf l sc′ m
@@ -101,6 +114,10 @@ module _ (l sc : List ℕ) (m nlib : ℕ) (held : Held l sc m nlib) (n : ℕ) (u
   -- what a lookup reads there is the row of the store
   pub cell-used : cellAt (whole l sc) n ≡ cellAt (storeOf l sc m) n
   cell-used = cell-stands l sc n used-stands ∙ sym (cell-is l sc nlib (held .whole-library) m n used)
+
+  pub row-used : (w : Shape) → w ≡ shapeAt (wordsAt l sc n) → rowAt (storeOf l sc m) n ≡ rowOf w
+  unfolding decode
+  row-used w e = ap (λ (x : Cell). x .row) (cell-is l sc nlib (held .whole-library) m n used) ∙ ap rowOf (sym e)
 
   pub bound-used : (k : ℕ) → bound (whole l sc) (rules.ptr n k) ≡ bound (storeOf l sc m) (rules.ptr n k)
   bound-used k = ap (λ (x : Cell). rules.boundOn (x .bound) k) cell-used

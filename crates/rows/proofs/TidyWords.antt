@@ -1,7 +1,7 @@
 -- Whether a kind is one of the nine and its unused words are 0, from the tests of the five words that may be unused.
 -- Assumes nothing.
 use Prim.Native.Nat.{ℕ, _≤_, _<_}
-use mathlib.Core.Path.{_≡_, sym}
+use mathlib.Core.Path.{_≡_}
 use mathlib.Core.Bool.{Bool, true, false}
 use Rattle.rows.specs.declared.Shape.{Shape}
 use Rattle.rows.specs.Checks.{used, Tidy, Formed, Says}

@@ -1,19 +1,17 @@
 -- The row writer against the course's `putIn`: 8, 5, or the row at the mark; and two writes in turn.
 -- Assumes nothing.
-use Prim.Native.Nat.{ℕ, zero, suc, _+_, _*_, _-_, _/_, _≤_, _<_}
-use native.Mathlib.Nat.{le-antisymm}
+use Prim.Native.Nat.{ℕ, _+_, _*_, _-_, _/_, _≤_, _<_}
 use native.Mathlib.Omega.{arith}
 use native.Mathlib.Numerals.{add-one}
 use mathlib.Core.Path.{_≡_, refl, sym, ap, ap₂, subst, _∙_}
 use mathlib.Core.List.{List, [], _∷_, _++_, append-nil}
 use borrow.Rule.Slice.PartMut.{midOf, putMid}
-use lib.ListN.{length, getD, set, take, drop, length-append, length-drop, drop-of-length-le}
-use lib.Seq.{take-all, take-at, drop-at, take-take, drop-drop, length-take-le}
-use Rattle.rules.specs.Maxima.{most-bound, most-height}
+use lib.ListN.{length, set, take, drop, length-append, length-drop, drop-of-length-le}
+use lib.Seq.{take-all, take-at, drop-at, drop-drop, length-take-le}
 use Rattle.rules.specs.Rows as rules
-use Rattle.rules.specs.Rows.{Row, Cell, Store, got, put, cell, cellAt}
+use Rattle.rules.specs.Rows.{Row, Cell, Store, got, put, cell}
 use Rattle.rules.specs.RowCheck.{Fits}
-use Rattle.rules.specs.Accepted.{IsRow, part, recorded}
+use Rattle.rules.specs.Accepted.{IsRow, part}
 use Rattle.course.specs.Views.{Cmp, at-most, over, cmp, FitView, fitView}
 use Rattle.course.specs.Views as view
 use Rattle.course.specs.Charged as course
@@ -23,23 +21,27 @@ use Rattle.rows.specs.declared.Shape.{Shape}
 use Rattle.rows.specs.declared.Out.{Out}
 use Rattle.rows.specs.declared.Out.the-variants.{Done, Refused}
 use Rattle.rows.specs.declared.kinds.Sizes.{Sizes}
-use Rattle.rows.specs.Words.{ptrOf, rowBy, rowOf, shapeAt, decode, wordsOf, storeOf, whole, Stands, Children, Held}
+use Rattle.rows.specs.Words.{ptrOf, rowOf, decode, wordsOf, storeOf, whole, Children, Held}
 use Rattle.rows.specs.Checks.{Formed, Within, sizesOf}
-use Rattle.rows.specs.Writes.{outOf, Grown, Wrote, Due, Pushed, too-large, none-free, at-mark}
-use Rattle.rows.proofs.Parts.{front-nine, part-same}
+use Rattle.rows.specs.Writes.{Grown, Wrote, Due, Pushed, too-large, none-free, at-mark}
+use Rattle.rows.proofs.Parts.{front-nine}
 use Rattle.rows.proofs.Store.{used-stands, cell-used, held-length, store-same, store-suc}
 use Rattle.rows.proofs.Formed.{formed-row}
 use Rattle.rows.proofs.Agree.{cell-row, row-agree}
 
 -- WORDS
 
--- nine stores at the front
-pub filled : (w : Shape) (b h : ℕ) (xs : List ℕ) → 9 ≤ length xs →
-    set (set (set (set (set (set (set (set (set xs 0 (w .kind)) 1 (w .first .row)) 2 (w .first .shift)) 3 (w .second .row)) 4 (w .second .shift)) 5 (w .third .row)) 6 (w .third .shift)) 7 b) 8 h
-    ≡ wordsOf w b h ++ drop 9 xs
+-- nine stores at the front, one after the other
+abbrev pub stored : Shape → ℕ → ℕ → List ℕ → List ℕ
+stored w b h xs =
+    let pair₁ = set (set (set xs 0 (w .kind)) 1 (w .first .row)) 2 (w .first .shift) in
+    let pair₂ = set (set pair₁ 3 (w .second .row)) 4 (w .second .shift) in
+    let pair₃ = set (set pair₂ 5 (w .third .row)) 6 (w .third .shift) in
+    set (set pair₃ 7 b) 8 h
+
+pub filled : (w : Shape) (b h : ℕ) (xs : List ℕ) → 9 ≤ length xs → stored w b h xs ≡ wordsOf w b h ++ drop 9 xs
 filled w b h xs l =
-    front-nine (λ (ys : List ℕ). set (set (set (set (set (set (set (set (set ys 0 (w .kind)) 1 (w .first .row)) 2 (w .first .shift)) 3 (w .second .row)) 4 (w .second .shift)) 5 (w .third .row)) 6 (w .third .shift)) 7 b) 8 h ≡ wordsOf w b h ++ drop 9 ys)
-    (λ a b c d e f g h i rest. refl) xs l
+    front-nine (λ (ys : List ℕ). stored w b h ys ≡ wordsOf w b h ++ drop 9 ys) (λ _ _ _ _ _ _ _ _ _ rest. refl) xs l
 
 -- a list with its end from `at` on rewritten at the front
 pub pasted : (xs ws ys : List ℕ) (at : ℕ) → at ≤ length xs → ys ≡ ws ++ drop 9 (midOf at (length xs - at) xs) →
@@ -165,6 +167,11 @@ module _ (l sc : List ℕ) (nlib m : ℕ) (w : Shape) (held : Held l sc m nlib) 
       place : ptrOf p ≡ rules.ptr (length (storeOf l sc m)) 0
       place = ap ptrOf at ∙ ap (λ (n : ℕ). rules.ptr n 0) (sym (held-length l sc m nlib held))
 
+      is-row : IsRow (part 9 sc′ m) (decode (part 9 sc′ m))
+      is-row =
+          let formed : Formed w = record { kind = due .kind; tidy = due .tidy } in
+          subst (λ (ws : List ℕ). IsRow ws (decode ws)) (sym part-is) (formed-row w (z .bound) (z .height) formed word)
+
       one-row : Grown sc m sc′ (m + 1)
       one-row = record {
         upward = omega arith;
@@ -172,7 +179,7 @@ module _ (l sc : List ℕ) (nlib m : ℕ) (w : Shape) (held : Held l sc m nlib) 
         past = write-past sc (wordsOf w (z .bound) (z .height)) sc′ m refl room written;
         rows = λ i low high.
             let here : m ≡ i = omega arith in
-            subst (λ (j : ℕ). IsRow (part 9 sc′ j) (decode (part 9 sc′ j))) here (subst (λ (ws : List ℕ). IsRow ws (decode ws)) (sym part-is) (formed-row w (z .bound) (z .height) (record { kind = due .kind; tidy = due .tidy }) word));
+            subst (λ (j : ℕ). IsRow (part 9 sc′ j) (decode (part 9 sc′ j))) here is-row;
       }
 
       done-wrote : Fits (cell (storeOf l sc m) (rowOf w)) → Wrote l sc m (Done p (m + 1)) sc′ answer

@@ -1,5 +1,5 @@
 -- The table's numbers, the words that a kind uses, and what the row check says. Assumes nothing: these are definitions.
-use Prim.Native.Nat.{ℕ, zero, suc, _+_, _*_, _≤_, _<_}
+use Prim.Native.Nat.{ℕ, _+_, _*_, _≤_, _<_}
 use mathlib.Core.Path.{_≡_}
 use mathlib.Core.Bool.{Bool, true, false}
 use mathlib.Core.List.{List, [], _∷_, _++_}
@@ -13,7 +13,7 @@ use Rattle.rows.specs.declared.Shape.{Shape}
 use Rattle.rows.specs.declared.kinds.Sizes.{Sizes}
 use Rattle.rows.specs.declared.row_check.Checked.{Checked}
 use Rattle.rows.specs.declared.row_check.Checked.the-variants.{AllPass, Broken}
-use Rattle.rows.specs.Words.{rowOf, decode, storeOf, whole, wordsAt}
+use Rattle.rows.specs.Words.{decode, storeOf, whole, wordsAt}
 
 -- the marks of the code's table: 0 a plain word, 1 a term, 2 a body under the binder
 abbrev pub tagCode : Tag → ℕ

@@ -4,7 +4,7 @@ use mathlib.Core.Path.{_≡_}
 use mathlib.Core.List.{List, _++_}
 use lib.ListN.{length, take, drop}
 use Rattle.rules.specs.Kinds.{plain}
-use Rattle.rules.specs.Rows.{Cell, got}
+use Rattle.rules.specs.Rows.{got}
 use Rattle.rules.specs.Accepted.{IsRow, part}
 use Rattle.course.specs.Charged as course
 use Rattle.rows.specs.declared.Ptr.{Ptr}
@@ -12,13 +12,17 @@ use Rattle.rows.specs.declared.Shape.{Shape}
 use Rattle.rows.specs.declared.Out.{Out}
 use Rattle.rows.specs.declared.Out.the-variants.{Done, Refused}
 use Rattle.rows.specs.declared.kinds.Sizes.{Sizes}
-use Rattle.rows.specs.Words.{ptrOf, tagAt, decode, wordsOf, storeOf}
+use Rattle.rows.specs.Words.{ptrOf, tagAt, decode, wordsOf, wordsAt, storeOf}
 use Rattle.rows.specs.Checks.{Tidy, Within}
 
 -- an answer, with the words that were left, as the course's
 abbrev pub outOf : Out → List ℕ → List ℕ → course.Out
 outOf (Done p m) l sc = course.wrote (got (storeOf l sc m) (ptrOf p))
 outOf (Refused k) l sc = course.refused k
+
+-- every used row is nine words as the rules have them
+pub record AreRows (l sc : List ℕ) (m nlib : ℕ) : Type 0 where
+  pub each : (n : ℕ) → n < nlib + m → IsRow (wordsAt l sc n) (decode (wordsAt l sc n))
 
 -- from mark m to mark m′: the new rows are nine words as the rules have them, and words past the new mark are as they were
 pub record Grown (sc : List ℕ) (m : ℕ) (sc′ : List ℕ) (m′ : ℕ) : Type 0 where

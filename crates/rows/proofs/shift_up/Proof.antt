@@ -10,7 +10,8 @@ use Rattle.rows.proofs.shift_up.Tie as tie
 
 -- the number read is the bound that the row records
 is-bound : (c : tie.After-bound-of) →
-    (cellAt (whole (c .before .before .before .before .args .library .now) (c .before .before .before .before .args .scratch .now)) (c .before .before .before .before .args .p .row)) .bound ≡ c .bound-of .result
+    let start = c .before .before .before .before in
+    (cellAt (whole (start .args .library .now) (start .args .scratch .now)) (start .args .p .row)) .bound ≡ c .bound-of .result
 is-bound c = bound-read _ _ _ (search needs) _ (c .before .row-at .ensures) _ (c .bound-of .ensures)
 
 row-at-requires : tie.Need-row-at-requires

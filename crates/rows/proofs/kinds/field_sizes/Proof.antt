@@ -3,7 +3,7 @@
 use borrow.Author.Needs.{needs}
 use native.Mathlib.Omega.{arith}
 use mathlib.Core.Path.{_≡_, refl, sym, ap, _∙_}
-use Rattle.rules.specs.Kinds.{plain, body}
+use Rattle.rules.specs.Kinds.{body}
 use Rattle.rules.specs.Rows.{cellAt}
 use Rattle.rows.specs.Words.{tagAt, whole, Stands}
 use Rattle.rows.specs.Checks.{tagCode}
@@ -15,17 +15,21 @@ use Rattle.rows.proofs.kinds.field_sizes.Tie as tie
 
 -- past the first test the field is a child, and its row stands
 child-stands : (c : tie.Else1) →
-    Stands (c .before .before .before .before .args .library .now) (c .before .before .before .before .args .scratch .now) (c .before .before .before .before .args .p .row)
+    let start = c .before .before .before .before in
+    Stands (start .args .library .now) (start .args .scratch .now) (start .args .p .row)
 child-stands c = c .before .before .before .before .pre .1 (λ e. c .if1 .left (c .before .field-tag .ensures ∙ ap tagCode e))
 
 -- the number read is the height that the row records
 is-height : (c : tie.After-wide) →
-    (cellAt (whole (c .before .before .before .before .before .before .before .args .library .now) (c .before .before .before .before .before .before .before .args .scratch .now)) (c .before .before .before .before .before .before .before .args .p .row)) .height ≡ c .wide .result
+    let start = c .before .before .before .before .before .before .before in
+    (cellAt (whole (start .args .library .now) (start .args .scratch .now)) (start .args .p .row)) .height ≡ c .wide .result
 is-height c =
     height-read _ _ _ (child-stands (c .before .before .before)) _ (c .before .before .row-at .ensures) _ (c .wide .ensures .0 ∙ c .before .height-of .ensures)
 
 -- past the second test it is a body
-is-body : (c : tie.Else2) → tagAt (c .before .before .before .before .before .before .before .before .before .args .kind) (c .before .before .before .before .before .before .before .before .before .args .j) ≡ body
+is-body : (c : tie.Else2) →
+    let start = c .before .before .before .before .before .before .before .before .before in
+    tagAt (start .args .kind) (start .args .j) ≡ body
 is-body c =
     let mark = c .before .before .before .before .before .before .field-tag .ensures in
     code-body _ (λ e. c .before .before .before .before .before .if1 .left (mark ∙ e)) (λ e. c .if2 .left (mark ∙ e))

@@ -41,8 +41,14 @@ add-t16 c = search needs
 
 returns-2 : tie.Need-returns-2
 returns-2 c =
-    let tested = c .before .before .before .before .before .before .before in
-    largest-sizes _ _ _ _ _ _ _ _ _ _ _ _ (search needs) (tested .if1 .left) (c .before .before .before .larger .ensures) (c .before .before .larger2 .ensures) (c .before .larger3 .ensures) (c .larger4 .ensures) (c .before .before .before .before .before .before .field-sizes .ensures) (c .before .before .before .before .before .field-sizes2 .ensures) (c .before .before .before .before .field-sizes3 .ensures)
+    let bounds = c .before .before in
+    let fields = bounds .before .before in
+    let second = fields .before in
+    let first = second .before in
+    let start = first .before .before .before .before .before in
+    largest-sizes _ _ _ _ _ _ _ _ _ _ _ _ (start .pre .kind) (first .before .if1 .left)
+    (bounds .before .larger .ensures) (bounds .larger2 .ensures) (c .before .larger3 .ensures) (c .larger4 .ensures)
+    (first .field-sizes .ensures) (second .field-sizes2 .ensures) (fields .field-sizes3 .ensures)
 
 pub sizes-of-spec : {M : Type 1} → statement M
 sizes-of-spec =

@@ -14,19 +14,22 @@ use Rattle.rows.proofs.row_check.field_ok.Statement.{statement}
 use Rattle.rows.proofs.row_check.field_ok.Tie as tie
 
 -- past the first test the field is a child
-is-child : (c : tie.Else1) → tagAt (c .before .before .before .before .args .kind) (c .before .before .before .before .args .j) ≡ plain → ⊥
+is-child : (c : tie.Else1) →
+    let start = c .before .before .before .before in tagAt (start .args .kind) (start .args .j) ≡ plain → ⊥
 is-child c e = c .if1 .left (c .before .field-tag .ensures ∙ ap tagCode e)
 
 -- past the second its row is lower, so it stands
 child-stands : (c : tie.Else2) →
-    Stands (c .before .before .before .before .before .before .args .library .now) (c .before .before .before .before .before .before .args .scratch .now) (c .before .before .before .before .before .before .args .p .row)
+    let start = c .before .before .before .before .before .before in
+    Stands (start .args .library .now) (start .args .scratch .now) (start .args .p .row)
 child-stands c =
     let n-stands = c .before .before .before .before .before .before .pre .1 in
     record { whole-library = n-stands .whole-library; whole-scratch = n-stands .whole-scratch; there = omega arith }
 
 -- the number read is the bound that the child records
 is-bound : (c : tie.After-bound-of) →
-    (cellAt (whole (c .before .before .before .before .before .before .before .before .args .library .now) (c .before .before .before .before .before .before .before .before .args .scratch .now)) (c .before .before .before .before .before .before .before .before .args .p .row)) .bound ≡ c .bound-of .result
+    let start = c .before .before .before .before .before .before .before .before in
+    (cellAt (whole (start .args .library .now) (start .args .scratch .now)) (start .args .p .row)) .bound ≡ c .bound-of .result
 is-bound c = bound-read _ _ _ (child-stands (c .before .before)) _ (c .before .row-at .ensures) _ (c .bound-of .ensures)
 
 field-tag-requires : tie.Need-field-tag-requires

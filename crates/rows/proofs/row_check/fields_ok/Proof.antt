@@ -32,7 +32,11 @@ returns-4 c =
     let at3 = c .before in
     let at2 = at3 .before .before in
     let at1 = at2 .before .before in
-    last-part _ _ _ _ _ _ _ (search needs) (at1 .before .in-range .ensures) (not-false _ (at1 .if1 .left)) (at2 .before .field-ok .ensures) (not-false _ (at2 .if2 .left)) (at3 .before .field-ok2 .ensures) (not-false _ (at3 .if3 .left)) (c .field-ok3 .ensures)
+    last-part _ _ _ _ _ _ _ (search needs)
+    (at1 .before .in-range .ensures) (not-false _ (at1 .if1 .left))
+    (at2 .before .field-ok .ensures) (not-false _ (at2 .if2 .left))
+    (at3 .before .field-ok2 .ensures) (not-false _ (at3 .if3 .left))
+    (c .field-ok3 .ensures)
 
 pub fields-ok-spec : {M : Type 1} → statement M
 fields-ok-spec =

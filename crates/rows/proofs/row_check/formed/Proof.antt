@@ -47,7 +47,12 @@ returns-6 c =
     let at4 = at5 .before .before in
     let at3 = at4 .before .before in
     let at2 = at3 .before .before in
-    all-idle _ _ (at2 .before .before .used-words .ensures) (search needs) (at2 .before .idle .ensures) (not-false _ (at2 .if2 .left)) (at3 .before .idle2 .ensures) (not-false _ (at3 .if3 .left)) (at4 .before .idle3 .ensures) (not-false _ (at4 .if4 .left)) (at5 .before .idle4 .ensures) (not-false _ (at5 .if5 .left)) (c .idle5 .ensures)
+    all-idle _ _ (at2 .before .before .used-words .ensures) (search needs)
+    (at2 .before .idle .ensures) (not-false _ (at2 .if2 .left))
+    (at3 .before .idle2 .ensures) (not-false _ (at3 .if3 .left))
+    (at4 .before .idle3 .ensures) (not-false _ (at4 .if4 .left))
+    (at5 .before .idle4 .ensures) (not-false _ (at5 .if5 .left))
+    (c .idle5 .ensures)
 
 pub formed-spec : {M : Type 1} → statement M
 formed-spec =

@@ -49,14 +49,18 @@ sized-requires : tie.Need-sized-requires
 sized-requires c κs =
     let tested = c .before .before in
     let read = tested .before .before in
-    (read .before .before .before .before .pre, right-children _ _ _ _ (read .before .before .before .before .pre) _ (is-shape read) (is-formed tested .kind) (c .before .fields-ok .ensures .yes (not-false _ (c .if2 .left))))
+    let stands = read .before .before .before .before .pre in
+    (stands, right-children _ _ _ _ stands _ (is-shape read) (is-formed tested .kind) (c .before .fields-ok .ensures .yes (not-false _ (c .if2 .left))))
 
 returns-3 : tie.Need-returns-3
 returns-3 c =
     let fields = c .before in
     let tested = fields .before .before in
     let read = tested .before .before in
-    last-sized _ _ _ _ (read .before .before .before .before .pre) _ (is-shape read) (is-word read) (tested .before .formed .ensures) (not-false _ (tested .if1 .left)) (fields .before .fields-ok .ensures) (not-false _ (fields .if2 .left)) (c .sized .ensures)
+    last-sized _ _ _ _ (read .before .before .before .before .pre) _ (is-shape read) (is-word read)
+    (tested .before .formed .ensures) (not-false _ (tested .if1 .left))
+    (fields .before .fields-ok .ensures) (not-false _ (fields .if2 .left))
+    (c .sized .ensures)
 
 pub row-passes-spec : {M : Type 1} → statement M
 row-passes-spec =

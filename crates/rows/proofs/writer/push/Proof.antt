@@ -65,7 +65,8 @@ returns-3 : tie.Need-returns-3
 returns-3 c =
     let room = c .before .before .before .before .before .before in
     let args = room .before .before .before .before .args in
-    at-mark (small (room .before)) (room .if2 .left) refl (pasted (args .scratch .now) (wordsOf (args .w) (args .size .bound) (args .size .height)) _ (9 * args .mark) (search needs) (c .before .before .fill .ensures))
+    let words = wordsOf (args .w) (args .size .bound) (args .size .height) in
+    at-mark (small (room .before)) (room .if2 .left) refl (pasted (args .scratch .now) words _ (9 * args .mark) (search needs) (c .before .before .fill .ensures))
 
 pub push-spec : {M : Type 1} → statement M
 push-spec =
