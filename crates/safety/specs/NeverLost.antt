@@ -34,17 +34,17 @@ use Rattle.safety.specs.Parts.{grow-pass}
 use Rattle.safety.specs.Safe.{Safe, safe-writes, safe-reduces, term-safe}
 use Rattle.safety.specs.Keeps.{EndIn, firing-in, pays-keep, after-side, runs-keep, comes-keep}
 
-data Found {A : Type 0} : Option A → Type 0 where
+pub data Found {A : Type 0} : Option A → Type 0 where
   found : {a : A} → Found (some a)
 
 found-none : {A : Type 0} {o : Option A} → Found o → o ≡ none → ⊥
 found-none found q = none-some (sym q)
 
 -- a row's recorded height is that of its fields
-height-at : {s : Store} {p : Ptr} → Formed s → Good s p → cellAt s (p .row) .height ≡ cell s (rowAt s (p .row)) .height
+pub height-at : {s : Store} {p : Ptr} → Formed s → Good s p → cellAt s (p .row) .height ≡ cell s (rowAt s (p .row)) .height
 height-at {p = p} f o = ap (λ (c : Cell). c .height) (f .each (p .row) (o .lower) .exact)
 
-never-flat : {s : Store} {p : Ptr} → Formed s → Good s p → cellAt s (p .row) .height ≤ 0 → ⊥
+pub never-flat : {s : Store} {p : Ptr} → Formed s → Good s p → cellAt s (p .row) .height ≤ 0 → ⊥
 never-flat {s} {p} f o h = omega (arith, height-positive s (rowAt s (p .row)), height-at f o)
 
 -- SPINES
@@ -81,8 +81,8 @@ then-found next found = found
 -- REPLACEMENT
 module _ (v : Option Ptr) (k : ℕ) where
   -- pointers at rows of height at most n are replaced
-  record Reaches (n : ℕ) : Type 0 where
-    at : (c : ℕ) (s : Store) (p : Ptr) → Formed s → Good s p → ValueGood s v → cellAt s (p .row) .height ≤ n → Found (replaceBy v k n c s p)
+  pub record Reaches (n : ℕ) : Type 0 where
+    pub at : (c : ℕ) (s : Store) (p : Ptr) → Formed s → Good s p → ValueGood s v → cellAt s (p .row) .height ≤ n → Found (replaceBy v k n c s p)
 
   -- a result with what the next field starts from
   data Grown (s : Store) : Option Got → Type 0 where
@@ -130,7 +130,7 @@ module _ (v : Option Ptr) (k : ℕ) where
         then-found (λ g. got (g .store) (up (g .store) (g .at) (p .shift)))
         (row-found (c - p .shift) (p .row) d (good-fields d o) x (omega (arith, l, height-at d o)))
 
-  reaches : (n : ℕ) → Reaches n
+  pub reaches : (n : ℕ) → Reaches n
   unfolding replaceBy
   reaches zero = record { at = λ c s p d o x l. absurd (never-flat d o l) }
   reaches (suc n) = record { at = λ c s p d o x l. pointer-found n (reaches n) c s p d o x l (cmp (bound s p) c) (cmp (c + count v) (p .shift)) }
