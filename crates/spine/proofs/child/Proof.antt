@@ -1,6 +1,7 @@
 -- `spine::child` meets its contract: the pair is read where the row stands, and takes the pointer's shift on.
 -- Assumes nothing.
 use borrow.Author.Needs.{needs}
+use native.Mathlib.Omega.{arith}
 use mathlib.Core.Path.{_≡_, ap, _∙_}
 use mathlib.Core.List.{List}
 use Prim.Native.Nat.{ℕ}
@@ -23,7 +24,9 @@ pair-is : (c : tie.After-pair-of) →
 pair-is c = c .pair-of .ensures ∙ ap (λ (ws : List ℕ). pairAt ws (c .before .before .before .before .args .j)) (c .before .row-at .ensures)
 
 shift-up-requires : tie.Need-shift-up-requires
-shift-up-requires c κs = let pre = c .before .before .before .before .pre .0 in rw (pair-is c) (pre .there, pre .fits)
+shift-up-requires c κs =
+    let pre = c .before .before .before .before .pre .0 in
+    let fits = pre .fits in rw (pair-is c) (pre .there, omega arith)
 
 returns : tie.Need-returns
 returns c = c .shift-up .ensures ∙ ap (λ (p : Ptr). up (whole (c .before .before .before .before .before .args .library .now) (c .before .before .before .before .before .args .scratch .now)) (ptrOf p) (c .before .before .before .before .before .args .t .shift)) (pair-is (c .before))
