@@ -1,3 +1,5 @@
 pub mod Records
 pub mod Env
 pub mod EnvLaws
+pub mod Read
+pub mod ReadLaws
