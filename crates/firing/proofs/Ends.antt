@@ -29,7 +29,7 @@ use Rattle.state.specs.declared.Answer.the-variants as answer
 use Rattle.state.specs.State.{tallyOf, limitsIn, stepAs, meterOf, Left}
 use Rattle.spine.specs.Walks.{runIn}
 
-none-some : {A : Type 0} {x : A} → none ≡ some x → ⊥
+pub none-some : {A : Type 0} {x : A} → none ≡ some x → ⊥
 none-some {A} {x} q = let z : _≡_ {A = ℕ} 0 1 = cc in omega arith
 
 -- WHAT WAS WRITTEN, AS AN ANSWER. The step is there: it is counted with the term.
