@@ -1,2 +1,4 @@
 pub mod Reading
 pub mod Holding
+pub mod ClauseTests
+pub mod FormTests

@@ -3,3 +3,4 @@ pub mod Env
 pub mod EnvLaws
 pub mod Read
 pub mod ReadLaws
+pub mod Clauses
