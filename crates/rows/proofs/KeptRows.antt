@@ -35,7 +35,7 @@ nth-cell [] i x e = absurd (let z : _≡_ {A = ℕ} 0 1 = cc in omega arith)
 nth-cell (y ∷ s) zero x e = cc
 nth-cell (y ∷ s) (suc i) x e = nth-cell s i x e
 
-cell-nth : (s : Store) (i : ℕ) → i < length s → nth s i ≡ some (cellAt s i)
+pub cell-nth : (s : Store) (i : ℕ) → i < length s → nth s i ≡ some (cellAt s i)
 unfolding nth cellAt
 cell-nth [] i h = absurd (not-suc-le-zero h)
 cell-nth (y ∷ s) zero h = refl
