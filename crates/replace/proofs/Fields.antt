@@ -26,7 +26,7 @@ use Rattle.rows.proofs.InTurn.{wrote-nothing}
 use Rattle.replace.specs.declared.Sub.{Sub}
 use Rattle.replace.specs.Replaced.{valueOf, tagOf, mostRows, Ready, FieldReady, PtrReady, FieldDone, Replaced}
 use Rattle.replace.proofs.Comes.{came}
-use Rattle.replace.proofs.Later.{held-room, says-also, ready-later, Went}
+use Rattle.replace.proofs.Later.{held-room, says-also, sound-later, ready-later, Went}
 
 -- WHAT A FIELD KEEPS
 
@@ -71,15 +71,15 @@ module _ (l sc : List ℕ) (nlib m : ℕ) (τ : Tag) (p : Ptr) (c : ℕ) (x : Su
   unfolding enough
   write = done .wrote enough (le-refl _)
 
-  pub kept-field : FieldKept (ready .declarations) τ (storeOf l sc m) (ptrOf p) (got (storeOf l sc′ m′) (ptrOf q))
+  pub kept-field : FieldKept (ready .sound .declarations) τ (storeOf l sc m) (ptrOf p) (got (storeOf l sc′ m′) (ptrOf q))
   unfolding enough
   kept-field =
-      field-keeps (ready .declarations) (valueOf x) (x .by) c (storeOf l sc m) (mostRows nlib sc) enough (ready .pass) (ready .value) (held-room l sc m nlib (ready .held)) τ
+      field-keeps (ready .sound .declarations) (valueOf x) (x .by) c (storeOf l sc m) (mostRows nlib sc) enough (ready .sound .pass) (ready .value) (held-room l sc m nlib (ready .sound .held)) τ
       (ptrOf p) (got (storeOf l sc′ m′) (ptrOf q)) ok (le-refl _) (write .says)
 
   pub went-field : Went l sc nlib m x sc′ m′
   went-field = record {
-    ready = ready-later l sc nlib m x ready q m′ sc′ _ write (kept-field .more) (kept-field .pass);
+    ready = ready-later ready (kept-field .more) (sound-later l sc nlib m (ready .sound) q m′ sc′ _ write (kept-field .pass));
     more = kept-field .more;
     same-length = write .same-length;
   }
@@ -88,7 +88,7 @@ module _ (l sc : List ℕ) (nlib m : ℕ) (τ : Tag) (p : Ptr) (c : ℕ) (x : Su
 
 module _ (l sc : List ℕ) (nlib m : ℕ) (p : Ptr) (c : ℕ) (x : Sub) where
   pub plain-done : (tag : ℕ) → FieldReady l sc nlib m tag p c x → tag ≡ 0 → FieldDone l sc nlib m tag p c x (Done p m) sc
-  plain-done tag given e = rw e (record { wrote = λ f h. wrote-nothing l sc m p (given .ready .held .room) })
+  plain-done tag given e = rw e (record { wrote = λ f h. wrote-nothing l sc m p (given .ready .sound .held .room) })
 
   child-good : {τ : Tag} → FieldOk (storeOf l sc m) (length (storeOf l sc m)) (shown τ (ptrOf p)) τ → (τ ≡ plain → ⊥) → Good (storeOf l sc m) (ptrOf p)
   child-good (plain-ok o) h = absurd (h refl)

@@ -108,7 +108,7 @@ module _ (most : ℕ) (v : Option rules.Ptr) (k c : ℕ) (s : Store) (r i : ℕ)
 
 module _ (l sc : List ℕ) (nlib m row i c : ℕ) (x : Sub) (given : IndexReady l sc nlib m row i c x) where
   abbrev held : Held l sc m nlib
-  held = given .ready .held
+  held = given .ready .sound .held
 
   pub stays-done : i < c → IndexDone l sc nlib m row i c x (Done (record { row = row; shift = 0 }) m) sc
   stays-done h = record {

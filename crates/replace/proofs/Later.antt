@@ -21,7 +21,7 @@ use Rattle.rows.proofs.Parts.{lt-or-ge, part-same}
 use Rattle.rows.proofs.Store.{words-in-library, words-in-scratch, held-length}
 use Rattle.rows.proofs.InTurn.{done-held}
 use Rattle.replace.specs.declared.Sub.{Sub}
-use Rattle.replace.specs.Replaced.{Ready, mostRows}
+use Rattle.replace.specs.Replaced.{Sound, Ready, mostRows}
 
 abbrev Is : List ℕ → Type 0
 Is ws = IsRow ws (decode ws)
@@ -30,10 +30,10 @@ Is ws = IsRow ws (decode ws)
 pub held-room : (l sc : List ℕ) (m nlib : ℕ) → Held l sc m nlib → length (storeOf l sc m) ≤ mostRows nlib sc
 held-room l sc m nlib held = let many = held-length l sc m nlib held in omega arith
 
-module _ (l sc : List ℕ) (nlib m : ℕ) (x : Sub) (ready : Ready l sc nlib m x) (q : Ptr) (m′ : ℕ) (sc′ : List ℕ) (out : course.Out)
+module _ (l sc : List ℕ) (nlib m : ℕ) (sound : Sound l sc nlib m) (q : Ptr) (m′ : ℕ) (sc′ : List ℕ) (out : course.Out)
     (done : Wrote l sc m (Done q m′) sc′ out) where
   abbrev whole-library : length l ≡ 9 * nlib
-  whole-library = ready .held .whole-library
+  whole-library = sound .held .whole-library
 
   grown : Grown sc m sc′ m′
   grown = done .grown q m′ refl
@@ -43,7 +43,7 @@ module _ (l sc : List ℕ) (nlib m : ℕ) (x : Sub) (ready : Ready l sc nlib m x
   row-later i h =
       ⊎-elim
       (λ (k : i < m).
-      subst Is (words-in-scratch l sc nlib whole-library i ∙ sym (part-same sc′ sc m i (done .kept) k)) (ready .words (nlib + i) (omega arith)))
+      subst Is (words-in-scratch l sc nlib whole-library i ∙ sym (part-same sc′ sc m i (done .kept) k)) (sound .words (nlib + i) (omega arith)))
       (λ (k : m ≤ i). grown .rows i k h)
       (lt-or-ge i m)
 
@@ -51,23 +51,28 @@ module _ (l sc : List ℕ) (nlib m : ℕ) (x : Sub) (ready : Ready l sc nlib m x
   words-later n h =
       ⊎-elim
       (λ (k : n < nlib).
-      subst Is (words-in-library l sc nlib whole-library n k ∙ sym (words-in-library l sc′ nlib whole-library n k)) (ready .words n (omega arith)))
+      subst Is (words-in-library l sc nlib whole-library n k ∙ sym (words-in-library l sc′ nlib whole-library n k)) (sound .words n (omega arith)))
       (λ (k : nlib ≤ n).
       let at : nlib + (n - nlib) ≡ n = omega arith in
       subst (λ (i : ℕ). Is (wordsAt l sc′ i)) at (subst Is (sym (words-in-scratch l sc′ nlib whole-library (n - nlib))) (row-later (n - nlib) (omega arith))))
       (lt-or-ge n nlib)
 
-  pub ready-later : Ext (storeOf l sc m) (storeOf l sc′ m′) → AllPass (ready .declarations) (storeOf l sc′ m′) → Ready l sc′ nlib m′ x
-  ready-later more pass = record {
-    held = done-held l sc m q m′ sc′ out done nlib (ready .held);
+  pub sound-later : AllPass (sound .declarations) (storeOf l sc′ m′) → Sound l sc′ nlib m′
+  sound-later pass = record {
+    held = done-held l sc m q m′ sc′ out done nlib (sound .held);
     words = words-later;
-    declarations = ready .declarations;
+    declarations = sound .declarations;
     pass = pass;
-    one = ready .one;
-    value = value-good-later more (ready .value);
-    value-shift = ready .value-shift;
-    move = ready .move;
   }
+
+pub ready-later : {l sc : List ℕ} {nlib m : ℕ} {x : Sub} {sc′ : List ℕ} {m′ : ℕ} → Ready l sc nlib m x → Ext (storeOf l sc m) (storeOf l sc′ m′) → Sound l sc′ nlib m′ → Ready l sc′ nlib m′ x
+ready-later ready more sound = record {
+  sound = sound;
+  one = ready .one;
+  value = value-good-later more (ready .value);
+  value-shift = ready .value-shift;
+  move = ready .move;
+}
 
 -- an answer says what equals what it said
 pub says-also : {l sc : List ℕ} {m : ℕ} {r : Out} {sc′ : List ℕ} {out out′ : course.Out} → Wrote l sc m r sc′ out → out ≡ out′ → Wrote l sc m r sc′ out′

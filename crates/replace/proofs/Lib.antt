@@ -6,3 +6,4 @@ pub mod Fields
 pub mod RowParts
 pub mod Turns
 pub mod Pointers
+pub mod Results

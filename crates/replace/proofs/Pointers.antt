@@ -33,7 +33,7 @@ module _ (l sc : List ℕ) (nlib m : ℕ) (p : Ptr) (c : ℕ) (x : Sub) (given :
   most = mostRows nlib sc
 
   abbrev held : Held l sc m nlib
-  held = given .ready .held
+  held = given .ready .sound .held
 
   abbrev rec : ℕ → ℕ → Store → rules.Ptr → course.Out
   rec f = replaceIn most (valueOf x) (x .by) f
@@ -63,7 +63,7 @@ module _ (l sc : List ℕ) (nlib m : ℕ) (p : Ptr) (c : ℕ) (x : Sub) (given :
       ((f : ℕ) → heightOf l sc m (p .row) ≤ suc f → Wrote l sc m r sc′ (ptrIn most (valueOf x) (x .by) (rec f) c s (ptrOf p) by-bound by-shift)) →
       (f : ℕ) → heightOf l sc m (p .row) ≤ f → Wrote l sc m r sc′ (replaceIn most (valueOf x) (x .by) f c s (ptrOf p))
   unfolding replaceIn
-  with-fuel w zero h = absurd (never-flat (pass-formed (given .ready .pass)) (given .good) h)
+  with-fuel w zero h = absurd (never-flat (pass-formed (given .ready .sound .pass)) (given .good) h)
   with-fuel w (suc f) h = w f h
 
   -- THE COURSE'S CASES

@@ -61,7 +61,7 @@ module _ (l sc : List ℕ) (nlib m row c : ℕ) (x : Sub) (given : RowReady l sc
   s = storeOf l sc m
 
   abbrev held : Held l sc m nlib
-  held = given .ready .held
+  held = given .ready .sound .held
 
   pub row-stands : Stands l sc row
   row-stands = used-stands l sc m nlib held row (given .there)
@@ -74,7 +74,7 @@ module _ (l sc : List ℕ) (nlib m row c : ℕ) (x : Sub) (given : RowReady l sc
   row-high = go (heightOf l sc m row) refl
     where
       go : (h : ℕ) → heightOf l sc m row ≡ h → 0 < h
-      go zero e = absurd (never-flat (pass-formed (given .ready .pass)) at-row (let z : heightOf l sc m row ≤ 0 = omega (arith, e) in z))
+      go zero e = absurd (never-flat (pass-formed (given .ready .sound .pass)) at-row (let z : heightOf l sc m row ≤ 0 = omega (arith, e) in z))
       go (suc h) e = omega arith
 
   module _ (w : Shape) (is : w ≡ shapeAt (wordsAt l sc row)) where
@@ -83,16 +83,16 @@ module _ (l sc : List ℕ) (nlib m row c : ℕ) (x : Sub) (given : RowReady l sc
     row-is = ap (λ (y : Cell). y .row) (cell-is l sc nlib (held .whole-library) m row (given .there)) ∙ ap rowOf (sym is)
 
     pub formed : Formed w
-    formed = subst Formed (sym is) (row-formed (given .ready .words row (given .there)))
+    formed = subst Formed (sym is) (row-formed (given .ready .sound .words row (given .there)))
 
     row-fields : FieldsOk s (length s) (rowOf w)
-    row-fields = subst (FieldsOk s (length s)) row-is (good-fields (pass-formed (given .ready .pass)) at-row)
+    row-fields = subst (FieldsOk s (length s)) row-is (good-fields (pass-formed (given .ready .sound .pass)) at-row)
 
     row-cell : cellAt s row ≡ cell s (rowOf w)
-    row-cell = given .ready .pass .each row (at-row .lower) .exact ∙ ap (cell s) row-is
+    row-cell = given .ready .sound .pass .each row (at-row .lower) .exact ∙ ap (cell s) row-is
 
     small : cell s (rowOf w) .bound ≤ most-bound
-    small = let b = given .ready .pass .each row (at-row .lower) .fits .bound in omega (arith, ap (λ (y : Cell). y .bound) row-cell)
+    small = let b = given .ready .sound .pass .each row (at-row .lower) .fits .bound in omega (arith, ap (λ (y : Cell). y .bound) row-cell)
 
     -- A VARIABLE
 

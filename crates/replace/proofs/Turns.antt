@@ -133,7 +133,7 @@ module _ {l sc : List ℕ} {nlib m row c : ℕ} {x : Sub} {w : Shape} (opened : 
     here : FieldSays l sc₁ n₁ (mostRows nlib sc₁) τ p c x (Done q n₂) sc₂
     here = subst (λ (k : ℕ). FieldSays l sc₁ n₁ k τ p c x (Done q n₂) sc₂) (ap (λ (k : ℕ). nlib + k / 9) (sym (turn .start .same-length))) (turn .answer)
 
-    pub turn-kept : FieldKept (turn .start .ready .declarations) τ (storeOf l sc₁ n₁) (ptrOf p) (got (storeOf l sc₂ n₂) (ptrOf q))
+    pub turn-kept : FieldKept (turn .start .ready .sound .declarations) τ (storeOf l sc₁ n₁) (ptrOf p) (got (storeOf l sc₂ n₂) (ptrOf q))
     turn-kept = kept-field l sc₁ nlib n₁ τ p c x (turn .start .ready) q n₂ sc₂ (child-ok l sc nlib m row c x given sc₁ n₁ (turn .start) τ p (turn .child)) here
 
     pub turn-after : Went l sc nlib m x sc₂ n₂
@@ -209,7 +209,7 @@ module _ {l sc : List ℕ} {nlib m row c : ℕ} {x : Sub} {w : Shape} (opened : 
         new = record { kind = w .kind; first = q₀; second = q₁; third = q₂ }
 
         below : (τ : Tag) (q : Ptr) {s′ : Store} → Ext s′ (storeOf l sc₃ n₃) → FieldOk s′ (length s′) (shown τ (ptrOf q)) τ → (τ ≡ plain → ⊥) → q .row < nlib + n₃
-        below τ q more ok f = omega (arith, stands-in τ (ptrOf q) (ext-good-field more ok) f, held-length l sc₃ n₃ nlib (turn-after turn₂ .ready .held))
+        below τ q more ok f = omega (arith, stands-in τ (ptrOf q) (ext-good-field more ok) f, held-length l sc₃ n₃ nlib (turn-after turn₂ .ready .sound .held))
 
         right : Formed w
         right = formed l sc nlib m row c x given w is
@@ -230,7 +230,7 @@ module _ {l sc : List ℕ} {nlib m row c : ℕ} {x : Sub} {w : Shape} (opened : 
             (same-kind (w .kind) (ptrOf (w .first)) (ptrOf (w .second)) (ptrOf q₀) (ptrOf q₁) (right .kind) (turn-kept turn₀ .same) (turn-kept turn₁ .same))
 
         pub made-row : {r : Out} {sc₄ : List ℕ} → Wrote l sc₃ n₃ r sc₄ (putIn (mostRows nlib sc₃) (storeOf l sc₃ n₃) (rowOf new)) → RowDone l sc nlib m row c x r sc₄
-        made-row {r} {sc₄} made = record { wrote = λ f h. says-also (after-first f h _ (after-second f h _ (after-third f h))) (row-by-fields f); near = near-put l sc₃ nlib n₃ _ _ (turn-after turn₂ .ready .held) _ r sc₄ made }
+        made-row {r} {sc₄} made = record { wrote = λ f h. says-also (after-first f h _ (after-second f h _ (after-third f h))) (row-by-fields f); near = near-put l sc₃ nlib n₃ _ _ (turn-after turn₂ .ready .sound .held) _ r sc₄ made }
           where
             as-due : Wrote l sc₃ n₃ r sc₄ (putIn most (storeOf l sc₃ n₃) (node (kind-of l sc nlib m row c x given w is kind) (shown (mark 0) (ptrOf q₀)) (shown (mark 1) (ptrOf q₁)) (shown (mark 2) (ptrOf q₂))))
             as-due = says-also made (ap (λ (k : ℕ). putIn (nlib + k / 9) (storeOf l sc₃ n₃) (rowOf new)) (turn-after turn₂ .same-length) ∙ ap (putIn most (storeOf l sc₃ n₃)) new-row)

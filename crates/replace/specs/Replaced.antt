@@ -47,12 +47,16 @@ heightOf l sc m r = (cellAt (storeOf l sc m) r) .height
 
 -- WHAT IS GIVEN
 
--- every used row is nine words as the rules have them, and passes the row check; no sum wraps
-pub record Ready (l sc : List ℕ) (nlib m : ℕ) (x : Sub) : Type 0 where
+-- every used row is nine words as the rules have them, and passes the row check
+pub record Sound (l sc : List ℕ) (nlib m : ℕ) : Type 0 where
   pub held : Held l sc m nlib
   pub words : (n : ℕ) → n < nlib + m → IsRow (wordsAt l sc n) (decode (wordsAt l sc n))
   pub declarations : ℕ
   pub pass : AllPass declarations (storeOf l sc m)
+
+-- and there is one good value or none; no sum wraps
+pub record Ready (l sc : List ℕ) (nlib m : ℕ) (x : Sub) : Type 0 where
+  pub sound : Sound l sc nlib m
   pub one : x .count ≤ 1
   pub value : ValueGood (storeOf l sc m) (valueOf x)
   pub value-shift : x .value .shift ≤ 65536

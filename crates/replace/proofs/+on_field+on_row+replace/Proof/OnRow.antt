@@ -177,7 +177,7 @@ pub on-row-make-requires : (t : ℕ) → on-row-lts.Need-make-requires (on-row-c
 on-row-make-requires t c κs =
     let done = c .before in
     let o = opened t (from₀ t (first-done t done)) in
-    (turn-after o (turn₂ t done) .ready .held, new-due o (turn₀ t (first-done t done)) (turn₁ t (done₁ t done)) (turn₂ t done))
+    (turn-after o (turn₂ t done) .ready .sound .held, new-due o (turn₀ t (first-done t done)) (turn₁ t (done₁ t done)) (turn₂ t done))
 
 pub on-row-same-length-5 : (t : ℕ) → on-row-lts.Need-same-length-5 (on-row-claims t) (on-row-at t) on-row.Post
 on-row-same-length-5 t c =
