@@ -99,10 +99,7 @@ module _ (l sc : List ℕ) (g : Given) (m : Meter) (body value : Ptr) (by : ℕ)
       let f = old .pass .each (body .row) (o .body-good .lower) .fits .height in
       record {
         ready = record {
-          held = old .held;
-          words = old .words;
-          declarations = old .declarations;
-          pass = old .pass;
+          sound = record { held = old .held; words = old .words; declarations = old .declarations; pass = old .pass };
           one = omega arith;
           value = some-good (o .value-good);
           value-shift = o .value-shift;
