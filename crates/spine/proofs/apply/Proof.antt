@@ -3,7 +3,6 @@
 use borrow.Author.Needs.{needs}
 use native.Mathlib.Omega.{arith}
 use Prim.Native.Nat.{_≤_, _-_}
-use Rattle.rows.specs.Writes.{Wrote}
 use Rattle.spine.proofs.Applying.{Applied, none-applied, counted-still, may-apply, applied-next, refused-there, all-applied}
 use Rattle.spine.proofs.apply.Statement.{statement}
 use Rattle.spine.proofs.apply.Tie as tie
