@@ -1,8 +1,8 @@
 -- What the table of kinds says of the words of a row: unused words and plain words stand in fields that are no children, so a row whose
 -- children are changed keeps them. Assumes nothing.
-use Prim.Native.Nat.{ℕ, zero, suc, _≤_, _<_}
+use Prim.Native.Nat.{ℕ, _≤_, _<_}
 use native.Mathlib.Omega.{arith}
-use mathlib.Core.Path.{_≡_, refl, sym, ap, ap₂, _∙_}
+use mathlib.Core.Path.{_≡_, refl, ap, _∙_}
 use Rattle.rules.specs.Kinds.{Tag, plain, term, body, sort, const, proj, num, table}
 use Rattle.rules.specs.Arithmetic.{wordsValue}
 use Rattle.rules.specs.Rows as rules

@@ -3,7 +3,7 @@
 use Prim.Native.Nat.{ℕ, _≤_}
 use native.Mathlib.Omega.{arith}
 use mathlib.Core.Path.{_≡_, refl, sym, _∙_, subst}
-use mathlib.Core.Option.{Option, none, some}
+use mathlib.Core.Option.{Option, some}
 use lib.ListN.{length}
 use Rattle.rules.specs.Rows.{Ptr, Cell, Store, cellAt, Got}
 use Rattle.rules.specs.RowCheck.{AllPass}

@@ -11,7 +11,7 @@ use lib.ListN.{length}
 use Rattle.rules.specs.Kinds.{Tag, plain, term, body}
 use Rattle.rules.specs.Rows as rules
 use Rattle.rules.specs.Rows.{Store, cellAt, fieldHeight, Got, got}
-use Rattle.rules.specs.RowCheck.{ChildOk, FieldOk, plain-ok, term-ok, body-ok, AllPass}
+use Rattle.rules.specs.RowCheck.{FieldOk, plain-ok, term-ok, body-ok, AllPass}
 use Rattle.course.specs.Charged as course
 use Rattle.course.specs.Charged.{fieldIn, replaceIn}
 use Rattle.substitution.specs.Stores.{Good, Ext, ext-same}
@@ -26,7 +26,7 @@ use Rattle.rows.proofs.InTurn.{wrote-nothing}
 use Rattle.replace.specs.declared.Sub.{Sub}
 use Rattle.replace.specs.Replaced.{valueOf, tagOf, mostRows, Ready, FieldReady, PtrReady, FieldDone, Replaced}
 use Rattle.replace.proofs.Comes.{came}
-use Rattle.replace.proofs.Later.{held-room, says-also, sound-later, ready-later, Went}
+use Rattle.replace.proofs.Later.{held-room, sound-later, ready-later, Went}
 
 -- WHAT A FIELD KEEPS
 

@@ -1,19 +1,18 @@
 -- The ways out of a variable's row, each as the course has it: the index stays, is the value, or moves and is written.
 -- Assumes nothing.
-use Prim.Native.Nat.{ℕ, zero, suc, _+_, _*_, _-_, _≤_, _<_}
+use Prim.Native.Nat.{ℕ, zero, suc, _+_, _-_, _≤_, _<_}
 use native.Mathlib.Omega.{arith}
 use mathlib.Core.Path.{_≡_, refl, sym, ap, subst, _∙_}
 use mathlib.Core.List.{List}
 use mathlib.Core.Option.{Option, none, some}
 use lib.ListN.{length}
 use Rattle.rules.specs.Rows as rules
-use Rattle.rules.specs.Rows.{Row, Cell, Store, var, cell, cellAt, up, upOn, Got, got, put}
-use Rattle.rules.specs.RowCheck.{ChildOk}
+use Rattle.rules.specs.Rows.{Row, Store, var, cell, cellAt, up, upOn, Got, got, put}
 use Rattle.rules.specs.Replacement.{count}
 use Rattle.course.specs.Views.{Cmp, at-most, over, cmp, FitView, fits, no-fit, fitView}
 use Rattle.course.specs.Charged as course
 use Rattle.course.specs.Charged.{putOn, putIn, indexIn}
-use Rattle.substitution.specs.Stores.{Good, put-length}
+use Rattle.substitution.specs.Stores.{put-length}
 use Rattle.substitution.specs.Existence.{ValueGood, some-good}
 use Rattle.rows.specs.declared.Ptr.{Ptr}
 use Rattle.rows.specs.declared.Out.{Out}
@@ -23,7 +22,7 @@ use Rattle.rows.specs.Writes.{Wrote}
 use Rattle.rows.proofs.Store.{used-stands, up-used, held-length}
 use Rattle.rows.proofs.InTurn.{wrote-nothing, done-held}
 use Rattle.replace.specs.declared.Sub.{Sub}
-use Rattle.replace.specs.Replaced.{valueBy, valueOf, mostRows, Ready, IndexReady, IndexDone, Near}
+use Rattle.replace.specs.Replaced.{valueBy, valueOf, mostRows, IndexReady, IndexDone, Near}
 use Rattle.replace.proofs.Later.{says-also}
 
 -- NEAR ANSWERS

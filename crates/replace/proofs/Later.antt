@@ -1,12 +1,11 @@
 -- What a write that was done leaves ready for the next: rows that stood stand, new ones are rows, and the value is good still.
 -- Assumes nothing.
-use Prim.Native.Nat.{ℕ, _+_, _*_, _-_, _/_, _≤_, _<_}
+use Prim.Native.Nat.{ℕ, _+_, _*_, _-_, _≤_, _<_}
 use native.Mathlib.Omega.{arith}
-use mathlib.Core.Path.{_≡_, refl, sym, ap, subst, _∙_}
+use mathlib.Core.Path.{_≡_, refl, sym, subst, _∙_}
 use mathlib.Core.List.{List}
 use mathlib.Core.Logic.{⊎-elim}
 use lib.ListN.{length}
-use Rattle.rules.specs.Rows.{Store, got}
 use Rattle.rules.specs.RowCheck.{AllPass}
 use Rattle.rules.specs.Accepted.{IsRow, part}
 use Rattle.course.specs.Charged as course
@@ -15,7 +14,7 @@ use Rattle.substitution.specs.Existence.{value-good-later}
 use Rattle.rows.specs.declared.Ptr.{Ptr}
 use Rattle.rows.specs.declared.Out.{Out}
 use Rattle.rows.specs.declared.Out.the-variants.{Done}
-use Rattle.rows.specs.Words.{ptrOf, decode, storeOf, wordsAt, Held}
+use Rattle.rows.specs.Words.{decode, storeOf, wordsAt, Held}
 use Rattle.rows.specs.Writes.{Grown, Wrote}
 use Rattle.rows.proofs.Parts.{lt-or-ge, part-same}
 use Rattle.rows.proofs.Store.{words-in-library, words-in-scratch, held-length}

@@ -3,10 +3,8 @@ use Prim.Native.Nat.{ℕ, zero, suc, _+_, _*_, _-_, _≤_, _<_}
 use native.Mathlib.Omega.{arith}
 use mathlib.Core.Path.{_≡_, refl, sym, ap, subst, _∙_}
 use mathlib.Core.List.{List}
-use lib.ListN.{length}
 use Rattle.rules.specs.Rows as rules
-use Rattle.rules.specs.Rows.{Store, cellAt, rowAt, bound, up, Got, got}
-use Rattle.rules.specs.RowCheck.{ChildOk}
+use Rattle.rules.specs.Rows.{Store, cellAt, rowAt, bound, up, got}
 use Rattle.rules.specs.Replacement.{count}
 use Rattle.course.specs.Views.{Cmp, at-most, over, cmp}
 use Rattle.course.specs.Charged as course
@@ -21,9 +19,9 @@ use Rattle.rows.specs.Writes.{outOf, Wrote}
 use Rattle.rows.proofs.Store.{used-stands, bound-used, up-used, held-length}
 use Rattle.rows.proofs.InTurn.{wrote-nothing, done-held, wrote-then}
 use Rattle.replace.specs.declared.Sub.{Sub}
-use Rattle.replace.specs.Replaced.{valueOf, mostRows, heightOf, Ready, RowReady, PtrReady, RowDone, Replaced, Near}
+use Rattle.replace.specs.Replaced.{valueOf, mostRows, heightOf, RowReady, PtrReady, RowDone, Replaced, Near}
 use Rattle.replace.proofs.Later.{says-also}
-use Rattle.replace.proofs.Indices.{near-done, near-refused, near-wider, up-near, count-is}
+use Rattle.replace.proofs.Indices.{near-done, near-refused, up-near, count-is}
 
 module _ (l sc : List ℕ) (nlib m : ℕ) (p : Ptr) (c : ℕ) (x : Sub) (given : PtrReady l sc nlib m p c x) where
   abbrev s : Store
@@ -106,49 +104,70 @@ module _ (l sc : List ℕ) (nlib m : ℕ) (p : Ptr) (c : ℕ) (x : Sub) (given :
     pub row-ready : RowReady l sc nlib m (p .row) (c - p .shift) x
     row-ready = record { ready = given .ready; there = there; near = let n = given .near in omega arith }
 
-    module _ (over-it : c < b) (low : p .shift < c + x .count) (r : Out) (sc′ : List ℕ) (done : RowDone l sc nlib m (p .row) (c - p .shift) x r sc′) where
-      inside-is : (f : ℕ) →
-          and-on (rowIn most (valueOf x) (x .by) (rec f) (c - p .shift) s (p .row) (rowAt s (p .row))) (λ g. course.wrote (got (g .store) (up (g .store) (g .at) (p .shift))))
-          ≡ ptrIn most (valueOf x) (x .by) (rec f) c s (ptrOf p) by-bound by-shift
-      inside-is f = on-inside f (omega (arith, bound-here b read)) (omega (arith, counted)) by-bound by-shift
+-- A ROW REPLACED IN
 
-      pub inside-refused : {n : ℕ} → r ≡ Refused n → Replaced l sc nlib m p c x r sc′
-      inside-refused {n} e = record {
-        wrote = with-fuel (λ f g.
-            let w = done .wrote f g in
-            let q : course.refused n ≡ rowIn most (valueOf x) (x .by) (rec f) (c - p .shift) s (p .row) (rowAt s (p .row)) = sym (ap (λ (o : Out). outOf o l sc′) e) ∙ w .says in
-            says-also w (sym q ∙ ap (λ (o : course.Out). and-on o (λ g. course.wrote (got (g .store) (up (g .store) (g .at) (p .shift))))) q ∙ inside-is f));
-        near = subst (Near nlib _) (sym e) near-refused;
-      }
+-- a pointer that neither stays nor moves
+pub record Inside (l sc : List ℕ) (nlib m : ℕ) (p : Ptr) (c : ℕ) (x : Sub) : Type 0 where
+  pub given : PtrReady l sc nlib m p c x
+  pub over-it : c < bound (storeOf l sc m) (ptrOf p)
+  pub low : p .shift < c + x .count
 
-      module _ (q : Ptr) (m′ : ℕ) (e : r ≡ Done q m′) where
-        below : q .row < nlib + m′
-        below = done .near .below q m′ e
+pub goes-inside : {l sc : List ℕ} {nlib m : ℕ} {p : Ptr} {c : ℕ} {x : Sub} (b : ℕ) → PtrReady l sc nlib m p c x → b ≡ bound (whole l sc) (ptrOf p) → c < b → p .shift < c + x .count →
+    Inside l sc nlib m p c x
+goes-inside {l} {sc} {nlib} {m} {p} {c} {x} b given read h k = record { given = given; over-it = omega (arith, bound-here l sc nlib m p c x given b read); low = k }
 
-        write : (f : ℕ) → heightOf l sc m (p .row) ≤ suc f →
-            Wrote l sc m (Done q m′) sc′ (rowIn most (valueOf x) (x .by) (rec f) (c - p .shift) s (p .row) (rowAt s (p .row)))
-        write f h = subst (λ (o : Out). Wrote l sc m o sc′ (rowIn most (valueOf x) (x .by) (rec f) (c - p .shift) s (p .row) (rowAt s (p .row)))) e (done .wrote f h)
+module _ {l sc : List ℕ} {nlib m : ℕ} {p : Ptr} {c : ℕ} {x : Sub} {r : Out} {sc′ : List ℕ} (inside : Inside l sc nlib m p c x) (done : RowDone l sc nlib m (p .row) (c - p .shift) x r sc′) where
+  abbrev ready : PtrReady l sc nlib m p c x
+  ready = inside .given
 
-        held′ : Held l sc′ m′ nlib
-        held′ = done-held l sc m q m′ sc′ _ (write (heightOf l sc m (p .row)) (omega arith)) nlib held
+  -- the course's answer for the row, and what is made of it
+  abbrev inRow : ℕ → course.Out
+  inRow f = rowIn (mostRows nlib sc) (valueOf x) (x .by) (replaceIn (mostRows nlib sc) (valueOf x) (x .by) f) (c - p .shift) (storeOf l sc m) (p .row) (rowAt (storeOf l sc m) (p .row))
 
-        pub inside-stands : Stands l sc′ (q .row)
-        inside-stands = used-stands l sc′ m′ nlib held′ (q .row) below
+  abbrev shifted : course.Out → course.Out
+  shifted o = and-on o (λ g. course.wrote (got (g .store) (up (g .store) (g .at) (p .shift))))
 
-        pub inside-shift : q .shift + p .shift < 4294967296
-        inside-shift = omega (arith, done .near .shift q m′ e, given .shift, given .near, given .ready .value-shift)
+  shifts : {r : Out} → ((f : ℕ) → heightOf l sc m (p .row) ≤ suc f → Wrote l sc m r sc′ (shifted (inRow f))) →
+      (f : ℕ) → heightOf l sc m (p .row) ≤ f → Wrote l sc m r sc′ (replaceIn (mostRows nlib sc) (valueOf x) (x .by) f c (storeOf l sc m) (ptrOf p))
+  shifts w =
+      with-fuel l sc nlib m p c x ready
+      (λ f h. says-also (w f h) (on-inside l sc nlib m p c x ready f (inside .over-it) (let k = inside .low in omega (arith, counted l sc nlib m p c x ready)) (by-bound l sc nlib m p c x ready) (by-shift l sc nlib m p c x ready)))
 
-        pub inside-done : (u : Ptr) → ptrOf u ≡ up (whole l sc′) (ptrOf q) (p .shift) → Replaced l sc nlib m p c x (Done u m′) sc′
-        inside-done u read-up =
-            let is : ptrOf u ≡ up (storeOf l sc′ m′) (ptrOf q) (p .shift) = read-up ∙ up-used l sc′ m′ nlib held′ (q .row) below (q .shift) (p .shift) in
-            let near = up-near (cellAt (storeOf l sc′ m′) (q .row) .bound) (ptrOf q) (p .shift) in
-            record {
-              wrote = with-fuel (λ f h.
-                  says-also (wrote-then l sc m q m′ sc′ _ (write f h) (Done u m′) sc′ _ (wrote-nothing l sc′ m′ u (held′ .room)))
-                  (ap (λ (g : rules.Ptr). course.wrote (got (storeOf l sc′ m′) g)) is
-                  ∙ ap (λ (o : course.Out). and-on o (λ g. course.wrote (got (g .store) (up (g .store) (g .at) (p .shift))))) (write f h .says) ∙ inside-is f));
-              near = near-done (omega (arith, below, ap (λ (g : rules.Ptr). g .row) is, near .0)) (omega (arith, ap (λ (g : rules.Ptr). g .shift) is, near .1, done .near .shift q m′ e, given .ready .one));
-            }
+  pub inside-refused : {n : ℕ} → r ≡ Refused n → Replaced l sc nlib m p c x r sc′
+  inside-refused {n} e = record {
+    wrote = shifts (λ f h.
+        let w = done .wrote f h in
+        let q : course.refused n ≡ inRow f = sym (ap (λ (o : Out). outOf o l sc′) e) ∙ w .says in
+        says-also w (sym q ∙ ap shifted q));
+    near = subst (Near nlib _) (sym e) near-refused;
+  }
+
+  module _ {q : Ptr} {m′ : ℕ} (e : r ≡ Done q m′) where
+    below : q .row < nlib + m′
+    below = done .near .below q m′ e
+
+    write : (f : ℕ) → heightOf l sc m (p .row) ≤ suc f → Wrote l sc m (Done q m′) sc′ (inRow f)
+    write f h = subst (λ (o : Out). Wrote l sc m o sc′ (inRow f)) e (done .wrote f h)
+
+    held′ : Held l sc′ m′ nlib
+    held′ = done-held l sc m q m′ sc′ _ (write (heightOf l sc m (p .row)) (omega arith)) nlib (ready .ready .sound .held)
+
+    pub inside-stands : Stands l sc′ (q .row)
+    inside-stands = used-stands l sc′ m′ nlib held′ (q .row) below
+
+    pub inside-shift : q .shift + p .shift < 4294967296
+    inside-shift = omega (arith, done .near .shift q m′ e, ready .shift, ready .near, ready .ready .value-shift)
+
+    pub inside-done : (u : Ptr) → ptrOf u ≡ up (whole l sc′) (ptrOf q) (p .shift) → Replaced l sc nlib m p c x (Done u m′) sc′
+    inside-done u read-up =
+        let is : ptrOf u ≡ up (storeOf l sc′ m′) (ptrOf q) (p .shift) = read-up ∙ up-used l sc′ m′ nlib held′ (q .row) below (q .shift) (p .shift) in
+        let near = up-near (cellAt (storeOf l sc′ m′) (q .row) .bound) (ptrOf q) (p .shift) in
+        record {
+          wrote = shifts (λ f h.
+              says-also (wrote-then l sc m q m′ sc′ _ (write f h) (Done u m′) sc′ _ (wrote-nothing l sc′ m′ u (held′ .room)))
+              (ap (λ (g : rules.Ptr). course.wrote (got (storeOf l sc′ m′) g)) is ∙ ap shifted (write f h .says)));
+          near = near-done (omega (arith, below, ap (λ (g : rules.Ptr). g .row) is, near .0)) (omega (arith, ap (λ (g : rules.Ptr). g .shift) is, near .1, done .near .shift q m′ e, ready .ready .one, inside .low));
+        }
 
 -- the measure falls from a pointer to its row
 pub rank-falls : (h rank : ℕ) → 3 * h + 1 ≡ rank → 3 * h < rank

@@ -1,6 +1,6 @@
 -- What a caller has of an answer: a pointer is what the rules replace to, in rows that are sound for the next call; a refusal is the first
 -- of the rules' due rows that may not stand. And rows that were checked are sound. Assumes nothing but the contract.
-use Prim.Native.Nat.{ℕ, _+_, _*_, _≤_, _<_}
+use Prim.Native.Nat.{ℕ, _+_, _*_, _<_}
 use native.Mathlib.Nat.{le-refl}
 use native.Mathlib.Omega.{arith}
 use mathlib.Core.Path.{_≡_, sym, ap, subst, _∙_}

@@ -7,25 +7,24 @@ use mathlib.Core.Path.{_≡_, refl, sym, ap, subst, _∙_}
 use mathlib.Core.List.{List}
 use lib.ListN.{length}
 use Rattle.rules.specs.Maxima.{most-bound}
-use Rattle.rules.specs.Kinds.{Kind, Tag, plain, term, body, Tags, tags, fields}
+use Rattle.rules.specs.Kinds.{Kind, Tag, plain, term, body, Tags, fields}
 use Rattle.rules.specs.Rows as rules
 use Rattle.rules.specs.Rows.{Row, var, node, Cell, Store, cell, cellAt, rowAt, boundOn, bound, fieldBound, fieldHeight}
-use Rattle.rules.specs.RowCheck.{ChildOk, FieldOk, plain-ok, term-ok, body-ok}
+use Rattle.rules.specs.RowCheck.{FieldOk, term-ok, body-ok}
 use Rattle.course.specs.Charged.{rowIn, replaceIn}
-use Rattle.substitution.specs.Stores.{FieldsOk, first-ok, second-ok, third-ok, Good, good-fields, Ext, ext-good-field, ext-field-height}
+use Rattle.substitution.specs.Stores.{FieldsOk, first-ok, second-ok, third-ok, Good, good-fields, ext-good-field, ext-field-height}
 use Rattle.substitution.specs.Passing.{pass-formed}
-use Rattle.safety.specs.NeverLost.{height-at, never-flat}
+use Rattle.safety.specs.NeverLost.{never-flat}
 use Rattle.rows.specs.declared.Ptr.{Ptr}
 use Rattle.rows.specs.declared.Shape.{Shape}
 use Rattle.rows.specs.declared.Out.{Out}
 use Rattle.rows.specs.Words.{ptrOf, kindOf, tagsAt, tagAt, shown, rowBy, rowOf, shapeAt, decode, storeOf, wordsAt, Stands, Held}
-use Rattle.rows.specs.Checks.{tagCode, Tidy, Formed}
-use Rattle.rows.specs.Writes.{Wrote}
+use Rattle.rows.specs.Checks.{tagCode, Formed}
 use Rattle.rows.proofs.Store.{used-stands, cell-is, held-length}
 use Rattle.rows.proofs.Formed.{row-formed}
-use Rattle.rows.proofs.NineKinds.{fields-are, height-shown, bound-shown, row-height, row-bound, child-shown}
+use Rattle.rows.proofs.NineKinds.{fields-are, height-shown, row-height, row-bound}
 use Rattle.replace.specs.declared.Sub.{Sub}
-use Rattle.replace.specs.Replaced.{valueOf, tagOf, mostRows, heightOf, Ready, IndexReady, FieldReady, RowReady, IndexDone, RowDone}
+use Rattle.replace.specs.Replaced.{valueOf, tagOf, mostRows, heightOf, IndexReady, FieldReady, RowReady, IndexDone, RowDone}
 use Rattle.replace.proofs.ByTable.{tag-is}
 use Rattle.replace.proofs.Later.{says-also, Went}
 

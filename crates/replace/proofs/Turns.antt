@@ -1,14 +1,14 @@
 -- The three fields of a row in turn, and then the new row: what each way out comes to as the course has it.
 -- Assumes nothing but what the code is given.
-use Prim.Native.Nat.{ℕ, zero, suc, _+_, _*_, _-_, _/_, _≤_, _<_}
+use Prim.Native.Nat.{ℕ, suc, _+_, _-_, _/_, _≤_, _<_}
 use native.Mathlib.Omega.{arith}
 use mathlib.Core.Path.{_≡_, refl, sym, ap, subst, _∙_}
 use mathlib.Core.List.{List}
-use lib.ListN.{length, take}
-use Rattle.rules.specs.Kinds.{Kind, Tag, plain, term, body, Tags, tags, fields}
+use lib.ListN.{length}
+use Rattle.rules.specs.Kinds.{Kind, Tag, plain, term, body, Tags, fields}
 use Rattle.rules.specs.Rows as rules
-use Rattle.rules.specs.Rows.{blank, Row, node, Store, rowAt, fieldHeight, Got, got}
-use Rattle.rules.specs.RowCheck.{ChildOk, FieldOk, plain-ok, term-ok, body-ok}
+use Rattle.rules.specs.Rows.{blank, Row, node, Store, rowAt, Got, got}
+use Rattle.rules.specs.RowCheck.{FieldOk, term-ok, body-ok}
 use Rattle.course.specs.Charged as course
 use Rattle.course.specs.Charged.{and-on, putIn, fieldIn, rowIn, replaceIn}
 use Rattle.substitution.specs.Stores.{Ext, ext-same, ext-then, ext-good-field}
@@ -16,13 +16,13 @@ use Rattle.rows.specs.declared.Ptr.{Ptr}
 use Rattle.rows.specs.declared.Shape.{Shape}
 use Rattle.rows.specs.declared.Out.{Out}
 use Rattle.rows.specs.declared.Out.the-variants.{Done, Refused}
-use Rattle.rows.specs.Words.{ptrOf, kindOf, tagsAt, tagAt, shown, rowBy, rowOf, shapeAt, storeOf, wordsAt, Held}
+use Rattle.rows.specs.Words.{ptrOf, tagsAt, tagAt, shown, rowOf, shapeAt, storeOf, wordsAt}
 use Rattle.rows.specs.Checks.{tagCode, Formed}
 use Rattle.rows.specs.Writes.{outOf, Wrote, Due}
 use Rattle.rows.proofs.Store.{held-length}
 use Rattle.rows.proofs.InTurn.{wrote-then}
 use Rattle.replace.specs.declared.Sub.{Sub}
-use Rattle.replace.specs.Replaced.{valueOf, mostRows, heightOf, Ready, FieldDone, RowReady, RowDone, Near}
+use Rattle.replace.specs.Replaced.{valueOf, mostRows, heightOf, FieldDone, RowReady, RowDone, Near}
 use Rattle.replace.proofs.ByTable.{tag-is, same-kind, same-tidy}
 use Rattle.replace.proofs.Later.{says-also, Went, went-nowhere, went-then}
 use Rattle.replace.proofs.Indices.{near-refused, near-put}

@@ -7,7 +7,7 @@ use mathlib.Core.Option.{Option, none, some}
 use lib.ListN.{length}
 use Rattle.rules.specs.Kinds.{Tag, plain, term, body}
 use Rattle.rules.specs.Rows as rules
-use Rattle.rules.specs.Rows.{Store, cellAt, rowAt, fieldHeight}
+use Rattle.rules.specs.Rows.{cellAt, rowAt, fieldHeight}
 use Rattle.rules.specs.RowCheck.{FieldOk, AllPass}
 use Rattle.rules.specs.Accepted.{IsRow}
 use Rattle.course.specs.Views.{cmp}

@@ -1,23 +1,21 @@
 -- From what was tested to what replacement requires. Assumes nothing.
-use Prim.Native.Nat.{ℕ, zero, suc, _+_, _≤_, _<_}
+use Prim.Native.Nat.{ℕ, zero, suc, _+_, _<_}
 use native.Mathlib.Omega.{arith}
-use mathlib.Core.Path.{_≡_, refl, sym, ap, _∙_}
-use mathlib.Core.Bool.{Bool, true, false}
+use mathlib.Core.Path.{_≡_, sym, ap, _∙_}
+use mathlib.Core.Bool.{true, false}
 use mathlib.Core.List.{List}
 use lib.ListN.{length}
 use Rattle.rules.specs.Rows as rules
 use Rattle.rules.specs.Rows.{Cell, Store, cellAt}
-use Rattle.rules.specs.RowCheck.{Passes}
-use Rattle.rules.specs.Accepted.{IsRow, Keep}
 use Rattle.substitution.specs.Stores.{Good}
 use Rattle.substitution.specs.Existence.{ValueGood, none-good, some-good}
 use Rattle.rows.specs.declared.Ptr.{Ptr}
 use Rattle.rows.specs.declared.row_check.Checked.{Checked}
-use Rattle.rows.specs.declared.row_check.Checked.the-variants.{AllPass, Broken}
+use Rattle.rows.specs.declared.row_check.Checked.the-variants.{AllPass}
 use Rattle.rows.specs.Words.{ptrOf, storeOf, whole, wordsAt, Stands, Held}
 use Rattle.rows.specs.Checks.{CheckSays, all-pass, broken}
 use Rattle.rows.proofs.Store.{used-stands, cell-used, held-length}
-use Rattle.rows.proofs.Lookup.{nine-read, bound-read}
+use Rattle.rows.proofs.Lookup.{bound-read}
 use Rattle.replace.specs.declared.Sub.{Sub}
 use Rattle.replace.specs.Replaced.{valueBy, Sound, PtrReady}
 use Rattle.replace.proofs.Results.{checked-sound}

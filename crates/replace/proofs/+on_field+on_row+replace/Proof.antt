@@ -4,7 +4,6 @@ mod Measure
 mod OnField
 mod OnRow
 mod Replace
-use Prim.Native.Nat.{ℕ}
 use Rattle.replace.proofs.on_field.Reads as on-field
 use Rattle.replace.proofs.+on_field+on_row+replace.Lts-on_field as on-field-lts
 use Rattle.replace.proofs.on_row.Reads as on-row

@@ -11,7 +11,10 @@ pub on-field-returns : (t : ℕ) → on-field-lts.Need-returns (on-field-claims 
 on-field-returns t c = plain-done _ _ _ _ _ _ _ _ (c .before .before .before .pre .1) (c .if1 .taken)
 
 pub on-field-replace-requires : (t : ℕ) → on-field-lts.Need-replace-requires (on-field-claims t) (on-field-at t) on-field.Post
-on-field-replace-requires t c κs = (field-falls _ _ _ _ _ _ (c .before .before .if1 .left) (c .before .before .before .before .before .pre .0), term-ready _ _ _ _ _ _ _ _ (c .before .before .before .before .before .pre .1) (c .before .if2 .taken))
+on-field-replace-requires t c κs =
+    let child = c .before .before in
+    let start = child .before .before .before in
+    (field-falls _ _ _ _ _ _ (child .if1 .left) (start .pre .0), term-ready _ _ _ _ _ _ _ _ (start .pre .1) (c .before .if2 .taken))
 
 pub on-field-same-length : (t : ℕ) → on-field-lts.Need-same-length (on-field-claims t) (on-field-at t) on-field.Post
 on-field-same-length t c = search needs
@@ -23,10 +26,16 @@ pub on-field-add-replace : (t : ℕ) → on-field-lts.Need-add-replace (on-field
 on-field-add-replace t c = let near = c .before .before .before .before .before .pre .1 .near in record { fits = omega arith }
 
 pub on-field-replace-requires-2 : (t : ℕ) → on-field-lts.Need-replace-requires-2 (on-field-claims t) (on-field-at t) on-field.Post
-on-field-replace-requires-2 t c κs = (field-falls _ _ _ _ _ _ (c .before .before .if1 .left) (c .before .before .before .before .before .pre .0), body-ready _ _ _ _ _ _ _ _ (c .before .before .before .before .before .pre .1) (c .before .before .if1 .left) (c .before .if2 .left))
+on-field-replace-requires-2 t c κs =
+    let child = c .before .before in
+    let start = child .before .before .before in
+    (field-falls _ _ _ _ _ _ (child .if1 .left) (start .pre .0), body-ready _ _ _ _ _ _ _ _ (start .pre .1) (child .if1 .left) (c .before .if2 .left))
 
 pub on-field-same-length-2 : (t : ℕ) → on-field-lts.Need-same-length-2 (on-field-claims t) (on-field-at t) on-field.Post
 on-field-same-length-2 t c = search needs
 
 pub on-field-returns-3 : (t : ℕ) → on-field-lts.Need-returns-3 (on-field-claims t) (on-field-at t) on-field.Post
-on-field-returns-3 t c = body-done _ _ _ _ _ _ _ _ (c .before .before .before .before .before .if1 .left) (c .before .before .before .before .if2 .left) _ _ (c .before .before .replace2 .ensures)
+on-field-returns-3 t c =
+    let called = c .before .before in
+    let body = called .before .before in
+    body-done _ _ _ _ _ _ _ _ (body .before .if1 .left) (body .if2 .left) _ _ (called .replace2 .ensures)

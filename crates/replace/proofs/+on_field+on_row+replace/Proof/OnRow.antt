@@ -1,12 +1,9 @@
 -- A row: a variable, or its fields in turn and then the new row. The places of the code are named first, with what is known there.
 -- Assumes nothing.
 use borrow.Author.Needs.{needs}
-use native.Mathlib.Omega.{arith}
 use Prim.Native.Nat.{ℕ, _≤_}
 use mathlib.Core.Path.{_≡_, _∙_}
-use mathlib.Core.List.{List}
 use Rattle.rules.specs.Kinds.{Tag}
-use Rattle.rows.specs.declared.Ptr.{Ptr}
 use Rattle.rows.specs.declared.Shape.{Shape}
 use Rattle.rows.specs.Words.{shapeAt, tagAt, wordsAt}
 use Rattle.rows.proofs.Lookup.{nine-read, shape-read}
