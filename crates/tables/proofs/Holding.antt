@@ -20,7 +20,7 @@ use Rattle.tables.specs.Env.{roleBy, declOf}
 use Rattle.tables.specs.Read.{nobody, heldBy, HoldersOf}
 use Rattle.tables.specs.ReadLaws.{role-code, no-code}
 
-code-most : (ρ : Role) → roleCode ρ ≤ 15
+pub code-most : (ρ : Role) → roleCode ρ ≤ 15
 code-most no-role = omega arith
 code-most nat = omega arith
 code-most zero′ = omega arith

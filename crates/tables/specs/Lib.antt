@@ -4,3 +4,4 @@ pub mod EnvLaws
 pub mod Read
 pub mod ReadLaws
 pub mod Clauses
+pub mod Verdicts

@@ -9,6 +9,7 @@ ghost use Rattle.tables.specs.Records.{recordsFrom};
 ghost use Rattle.tables.specs.Env.{ruleOf};
 ghost use Rattle.tables.specs.Read.{declRead, ruleRead, foundRule, foundValue, Words, HoldersOf, ValueOf};
 
+pub mod accept;
 pub mod clauses;
 
 // A declaration's words that the head rules read.
