@@ -41,7 +41,7 @@ found-none : {A : Type 0} {o : Option A} → Found o → o ≡ none → ⊥
 found-none found q = none-some (sym q)
 
 -- a row's recorded height is that of its fields
-pub height-at : {s : Store} {p : Ptr} → Formed s → Good s p → cellAt s (p .row) .height ≡ cell s (rowAt s (p .row)) .height
+height-at : {s : Store} {p : Ptr} → Formed s → Good s p → cellAt s (p .row) .height ≡ cell s (rowAt s (p .row)) .height
 height-at {p = p} f o = ap (λ (c : Cell). c .height) (f .each (p .row) (o .lower) .exact)
 
 pub never-flat : {s : Store} {p : Ptr} → Formed s → Good s p → cellAt s (p .row) .height ≤ 0 → ⊥
