@@ -4,6 +4,7 @@ pub mod Scope
 pub mod Parts
 pub mod Safe
 pub mod Keeps
+pub mod Leaves
 pub mod NeverLost
 pub mod Answers
 pub mod Words
