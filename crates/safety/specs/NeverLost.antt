@@ -144,7 +144,7 @@ give-found d (itself-good o) = found
 give-found d number-good = found
 give-found d (constant-good h) = found
 
-due-found : {D : ℕ} {s : Store} {r : Result} (xs : List Ptr) → Formed s → ResultGood D s r → Found (dueOf s r xs)
+pub due-found : {D : ℕ} {s : Store} {r : Result} (xs : List Ptr) → Formed s → ResultGood D s r → Found (dueOf s r xs)
 unfolding dueOf
 due-found xs d i = then-found (λ g. joined (g .store) (g .at) xs) (give-found d i)
 

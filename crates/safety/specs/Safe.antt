@@ -49,18 +49,18 @@ safe-else z a (safe-reduces h f) k = safe-reduces h λ s₁ w ys x b q hs. safe-
 
 -- EACH RULE
 module _ {e : Env} {s : Store} {xs : List Ptr} (sane : Sane e s) (args : AllIn s (depthOf e) xs) where
-  safe-variable : (i : ℕ) → Safe (declCount e) (depthOf e) s (variable e s i xs)
+  pub safe-variable : (i : ℕ) → Safe (declCount e) (depthOf e) s (variable e s i xs)
   unfolding variable
   safe-variable i = safe-with (valueOf e i) _ λ v q. safe-fires (itself-in (value-in i (sane .context i v q))) args
 
-  safe-projection : (x : Ptr) (i : ℕ) → InScope s (depthOf e) x → Safe (declCount e) (depthOf e) s (projection e x i xs)
+  pub safe-projection : (x : Ptr) (i : ℕ) → InScope s (depthOf e) x → Safe (declCount e) (depthOf e) s (projection e x i xs)
   unfolding projection
   safe-projection x i h =
       safe-reduces h λ s₁ w ys x₁ a b hs.
       safe-with (fieldAt e w ys i) _ λ f q.
       safe-fires (itself-in (field-in e w i hs q)) (all-later x₁ args)
 
-  safe-quot : (D : Decl) → Safe (declCount e) (depthOf e) s (quot e D xs)
+  pub safe-quot : (D : Decl) → Safe (declCount e) (depthOf e) s (quot e D xs)
   unfolding quot
   safe-quot D =
       safe-with (quotParts D xs) _ λ q h.
@@ -69,7 +69,7 @@ module _ {e : Env} {s : Store} {xs : List Ptr} (sane : Sane e s) (args : AllIn s
       safe-with (quotMade e w ys) _ λ c r.
       safe-fires (itself-in (in-later x₁ (parts .function))) (and-in (made-in e w hs r) (all-later x₁ (parts .rest)))
 
-  safe-recursion : (j n : ℕ) → Safe (declCount e) (depthOf e) s (recursion e (declAt (e .decls) j) n xs)
+  pub safe-recursion : (j n : ℕ) → Safe (declCount e) (depthOf e) s (recursion e (declAt (e .decls) j) n xs)
   unfolding recursion
   safe-recursion j n =
       safe-with (recParts (declAt (e .decls) j) n xs) _ λ q h.
@@ -83,7 +83,7 @@ module _ {e : Env} {s : Store} {xs : List Ptr} (sane : Sane e s) (args : AllIn s
       let ruled = by-rule-in (q .of) c (λ i x. sane-later x₂ a₂ sane .rule j (q .of) i x (parts .form)) (all-later x₂ args) (made .arguments) r in
       safe-fires (itself-in (ruled .value)) (ruled .arguments)
 
-  safe-arithmetic : (D : Decl) → Safe (declCount e) (depthOf e) s (arithmetic e D xs)
+  pub safe-arithmetic : (D : Decl) → Safe (declCount e) (depthOf e) s (arithmetic e D xs)
   unfolding arithmetic
   safe-arithmetic D =
       safe-with (operands e D xs) _ λ q h.
@@ -95,13 +95,13 @@ module _ {e : Env} {s : Store} {xs : List Ptr} (sane : Sane e s) (args : AllIn s
       safe-with (outcome e (compute (q .op) x y)) _ λ r o.
       safe-fires (outcome-in e (compute (q .op) x y) o) none-in
 
-  safe-delta : (j n : ℕ) → Safe (declCount e) (depthOf e) s (delta (declAt (e .decls) j) n xs)
+  pub safe-delta : (j n : ℕ) → Safe (declCount e) (depthOf e) s (delta (declAt (e .decls) j) n xs)
   unfolding delta
   safe-delta j n =
       safe-with (unfolds (declAt (e .decls) j) n) _ λ v q.
       safe-fires (itself-in (closed-in (depthOf e) (sane .value j v (unfolds-to (declAt (e .decls) j) n q)))) args
 
-safe-constant : {e : Env} {s : Store} {xs : List Ptr} → Sane e s → AllIn s (depthOf e) xs → (j n : ℕ) →
+pub safe-constant : {e : Env} {s : Store} {xs : List Ptr} → Sane e s → AllIn s (depthOf e) xs → (j n : ℕ) →
     Safe (declCount e) (depthOf e) s (constant e (declAt (e .decls) j) n xs)
 unfolding constant
 safe-constant {e} {s} {xs} sane args j n =
@@ -115,7 +115,7 @@ safe-constant {e} {s} {xs} sane args j n =
     let x′ = ext-then x x₃ in
     safe-delta (sane-later x′ a₃ sane) (all-later x′ args) j n
 
-safe-lambda : {D d k : ℕ} {s : Store} {x b z : Ptr} {xs : List Ptr} → RowIn D s d k (node lam x b z) → AllIn s d xs → Safe D d s (lambda b k xs)
+pub safe-lambda : {D d k : ℕ} {s : Store} {x b z : Ptr} {xs : List Ptr} → RowIn D s d k (node lam x b z) → AllIn s d xs → Safe D d s (lambda b k xs)
 unfolding lambda
 safe-lambda r none-in = safe-none
 safe-lambda r (and-in h hs) = safe-fires (opened-in (lambda-body-in r) h) hs
