@@ -1,1 +1,3 @@
 pub mod Standing
+pub mod WaysOut
+pub mod Projecting

@@ -36,8 +36,10 @@ use Rattle.state.specs.declared.Given.{Given}
 use Rattle.state.specs.declared.Meter.{Meter}
 use Rattle.state.specs.declared.Answer.{Answer}
 use Rattle.state.specs.declared.Answer.the-variants.{Term, Final, Refused}
+use Rattle.state.specs.declared.Reduced.{Reduced}
+use Rattle.state.specs.declared.Reduced.the-variants as reduced
 use Rattle.state.specs.State.{tallyOf, limitsIn, meterOf, Headed, Left}
-use Rattle.cycle.specs.Cycle.{Stand, Asked, Counted, Passed, Ran, resBy}
+use Rattle.cycle.specs.Cycle.{Stand, Asked, Counted, Passed, Ran, resBy, meterAfter}
 use Rattle.cycle.specs.Course.{step-missed, step-fired}
 
 -- THE ENVIRONMENT: as deep as the call says
@@ -74,7 +76,7 @@ module _ {sc : List ℕ} {m : Meter} {sc₁ : List ℕ} {m₁ : Meter} (p : Pass
 pub left-passed : {l sc sc₁ : List ℕ} {m m₁ : Meter} {r : Answer} {step : Step} → Left l sc m r sc₁ step → meterOf r ≡ some m₁ → Passed sc m sc₁ m₁
 left-passed k q = record { kept = k .kept; same-length = k .same-length; grown = k .grown _ q }
 
-pub ran-passed : {l sc sc₁ : List ℕ} {m m₁ : Meter} {r : Answer} {res : Res} → Ran l sc m r sc₁ res → meterOf r ≡ some m₁ → Passed sc m sc₁ m₁
+pub ran-passed : {l sc sc₁ : List ℕ} {m m₁ : Meter} {r : Reduced} {res : Res} → Ran l sc m r sc₁ res → meterAfter r ≡ some m₁ → Passed sc m sc₁ m₁
 ran-passed k q = record { kept = k .kept; same-length = k .same-length; grown = k .grown _ q }
 
 -- the limits are those of the start
@@ -145,7 +147,7 @@ module _ {l ds rs cs sc : List ℕ} {g : Given} {m : Meter} (s : Stand l ds rs c
   }
 
   pub after-side : {sc₁ : List ℕ} {m₁ : Meter} {p q : Ptr} (n : ℕ) → InScope (storeOf l sc (m .mark)) (g .depth) (ptrOf p) →
-      Ran l sc m (Term q m₁) sc₁ (resBy l ds rs cs sc g m n (ptrOf p)) → Next sc₁ m₁ q
+      Ran l sc m (reduced.To q m₁) sc₁ (resBy l ds rs cs sc g m n (ptrOf p)) → Next sc₁ m₁ q
   after-side n i r = next-of (ran-passed r refl) (side-leaves Here (limitsIn g sc) n stand-within (s .sane) (to-depth i) (sym (r .says)))
 
   module _ (n : ℕ) {y : Try} (safe : Safe (declCount Here) (depthOf Here) (storeOf l sc (m .mark)) y) where

@@ -3,7 +3,7 @@
 use Prim.Native.Nat.{ℕ, _+_, _*_, _/_, _≤_, _<_}
 use mathlib.Core.Path.{_≡_}
 use mathlib.Core.List.{List}
-use mathlib.Core.Option.{some}
+use mathlib.Core.Option.{Option, none, some}
 use lib.ListN.{length, getD, take}
 use Rattle.rules.specs.Maxima.{most-bound, most-steps}
 use Rattle.rules.specs.Rows as rules
@@ -12,7 +12,7 @@ use Rattle.rules.specs.RowCheck.{InScope}
 use Rattle.rules.specs.Accepted.{IsRow}
 use Rattle.rules.specs.Declarations.{Env}
 use Rattle.course.specs.Tries.{Try}
-use Rattle.course.specs.Eval.{Res, ok, no, lost, try, atHead, sideAt}
+use Rattle.course.specs.Eval.{Res, ok, no, try, atHead, sideAt}
 use Rattle.safety.specs.Sane.{Sane}
 use Rattle.ways.specs.Steps.{Step, stepOf}
 use Rattle.ways.specs.Spines.{argsOf}
@@ -23,9 +23,9 @@ use Rattle.tables.specs.Env.{envOf}
 use Rattle.tables.specs.Read.{HoldersOf}
 use Rattle.state.specs.declared.Given.{Given}
 use Rattle.state.specs.declared.Meter.{Meter}
-use Rattle.state.specs.declared.Answer.{Answer}
-use Rattle.state.specs.declared.Answer.the-variants.{Term, Final, Refused}
-use Rattle.state.specs.State.{tallyOf, limitsIn, meterOf}
+use Rattle.state.specs.declared.Reduced.{Reduced}
+use Rattle.state.specs.declared.Reduced.the-variants.{To, Refused}
+use Rattle.state.specs.State.{tallyOf, limitsIn}
 
 -- WHAT IS GIVEN
 
@@ -70,11 +70,14 @@ headBy l ds rs cs sc g m n t =
     stepOf (limitsIn g sc)
     (atHead (limitsIn g sc) (envOf ds rs cs (g .depth)) (sideAt (envOf ds rs cs (g .depth)) (limitsIn g sc) n) (tallyOf l sc m) t)
 
--- a reduction's term or its refusal; it never answers Final
-abbrev pub resAs : Answer → List ℕ → List ℕ → Res
-resAs (Term p m) l sc = ok (tallyOf l sc m) (ptrOf p)
-resAs (Final m) l sc = lost
+-- a reduction's term, or its refusal
+abbrev pub resAs : Reduced → List ℕ → List ℕ → Res
+resAs (To p m) l sc = ok (tallyOf l sc m) (ptrOf p)
 resAs (Refused k) l sc = no k
+
+abbrev pub meterAfter : Reduced → Option Meter
+meterAfter (To p m) = some m
+meterAfter (Refused k) = none
 
 abbrev pub resBy : List ℕ → List ℕ → List ℕ → List ℕ → List ℕ → Given → Meter → ℕ → rules.Ptr → Res
 resBy l ds rs cs sc g m n t = sideAt (envOf ds rs cs (g .depth)) (limitsIn g sc) n (tallyOf l sc m) t
@@ -88,8 +91,8 @@ pub record Passed (sc : List ℕ) (m : Meter) (sc′ : List ℕ) (m′ : Meter) 
   pub grown : Grown sc (m .mark) sc′ (m′ .mark)
 
 -- the answer is this reduction's
-pub record Ran (l sc : List ℕ) (m : Meter) (r : Answer) (sc′ : List ℕ) (res : Res) : Type 0 where
+pub record Ran (l sc : List ℕ) (m : Meter) (r : Reduced) (sc′ : List ℕ) (res : Res) : Type 0 where
   pub says : resAs r l sc′ ≡ res
   pub kept : take (9 * m .mark) sc′ ≡ take (9 * m .mark) sc
   pub same-length : length sc′ ≡ length sc
-  pub grown : (m′ : Meter) → meterOf r ≡ some m′ → Grown sc (m .mark) sc′ (m′ .mark)
+  pub grown : (m′ : Meter) → meterAfter r ≡ some m′ → Grown sc (m .mark) sc′ (m′ .mark)

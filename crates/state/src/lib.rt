@@ -24,3 +24,9 @@ pub enum Answer {
     Final(Meter),
     Refused(u32),
 }
+
+// A reduction's term with the meter after it, or the refusal's number.
+pub enum Reduced {
+    To(Ptr, Meter),
+    Refused(u32),
+}

@@ -63,7 +63,7 @@ module _ (ds rs : List ℕ) (s : Store) (L : ℕ) (ws : List ℕ) where
         on (recursor-right r) e = absurd (omega arith)
         on (structure-right i c) e = absurd (omega arith)
 
-    recursor-is : kind ≡ 2 → RecursorRight ds rs s L ws
+    pub recursor-is : kind ≡ 2 → RecursorRight ds rs s L ws
     recursor-is = on form
       where
         on : {k : ℕ} → FormRight ds rs s L ws k → k ≡ 2 → RecursorRight ds rs s L ws

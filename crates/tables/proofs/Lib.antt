@@ -9,3 +9,4 @@ pub mod EntryLaws
 pub mod Kept
 pub mod Roles
 pub mod Accepting
+pub mod Given
