@@ -1,3 +1,4 @@
 pub mod Standing
 pub mod WaysOut
 pub mod Projecting
+pub mod Quotients

@@ -1,6 +1,7 @@
 -- What stands after a member of the cycle has answered: the next one is given all that the first was given, in the rows that are left.
 -- Assumes what a member is given.
 use Prim.Native.Nat.{ℕ, suc, _+_, _*_, _/_, _≤_, _<_}
+use native.Mathlib.Nat.{le-refl}
 use native.Mathlib.Omega.{arith}
 use mathlib.Core.Path.{_≡_, refl, sym, ap, _∙_, subst}
 use mathlib.Core.List.{List}
@@ -72,6 +73,14 @@ module _ {sc : List ℕ} {m : Meter} {sc₁ : List ℕ} {m₁ : Meter} (p : Pass
     same-length = k .same-length ∙ p .same-length;
     grown = grown-on sc sc₁ sc₂ (m .mark) (m₁ .mark) (m₂ .mark) (k .kept) (p .grown) (k .grown);
   }
+
+-- nothing written
+pub nothing-passed : (sc : List ℕ) (m : Meter) → 9 * m .mark ≤ length sc → Passed sc m sc m
+nothing-passed sc m room = record {
+  kept = refl;
+  same-length = refl;
+  grown = record { upward = le-refl _; room = room; past = refl; rows = λ i low high. absurd (omega arith) };
+}
 
 pub left-passed : {l sc sc₁ : List ℕ} {m m₁ : Meter} {r : Answer} {step : Step} → Left l sc m r sc₁ step → meterOf r ≡ some m₁ → Passed sc m sc₁ m₁
 left-passed k q = record { kept = k .kept; same-length = k .same-length; grown = k .grown _ q }

@@ -10,7 +10,7 @@ use Rattle.rules.specs.Declarations.{Env}
 use Rattle.rules.specs.Firings.{Result}
 use Rattle.rules.specs.Refusals.{Limits}
 use Rattle.course.specs.Eval.{Res, Ans, missed, firing, Side, sideAt}
-use Rattle.substitution.specs.Stores.{scope-good}
+use Rattle.substitution.specs.Stores.{Ext, scope-good}
 use Rattle.substitution.specs.Passing.{pass-formed}
 use Rattle.safety.specs.Lists.{none-some}
 use Rattle.safety.specs.Sane.{depthOf, declCount}
@@ -79,6 +79,9 @@ module _ {l ds rs cs sc : List ℕ} {g : Given} {m : Meter} {t : Ptr} {count : �
 
   pub t-counted : Counted l ds rs cs sc₁ g m₁ t count
   t-counted = counted-on (c .asked .stand) (q-asked .stand) (next .more) c
+
+  pub grown-store : Ext (storeOf l sc (m .mark)) (storeOf l sc₁ (m₁ .mark))
+  grown-store = next .more
 
   pub side-ended : Ended Here lim sd (tallyOf l sc m) (ptrOf p) (tallyOf l sc₁ m₁) (headRow (storeOf l sc₁ (m₁ .mark)) (ptrOf q)) (argsOf (storeOf l sc₁ (m₁ .mark)) (ptrOf q))
   side-ended = ended (q-asked .stand .sane) (to-depth (q-asked .stand) (q-asked .scope)) (sym (r .says))
