@@ -2,3 +2,4 @@ pub mod Standing
 pub mod WaysOut
 pub mod Projecting
 pub mod Quotients
+pub mod Constants

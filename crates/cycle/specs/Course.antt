@@ -84,6 +84,10 @@ step-fired lim (firing m r xs) q = record { at = m; result = r; arguments = xs; 
 step-fired lim (refuse k) q = absurd (omega (arith, ap nameOf q))
 step-fired lim gone q = absurd (omega (arith, ap nameOf q))
 
+-- what is final is not stopped
+pub step-stopped : {m : Tally} {k : ℕ} → final m ≡ stopped k → ⊥
+step-stopped q = omega (arith, ap nameOf q)
+
 -- stopped: trying or paying was refused, and so is the reduction
 pub next-stopped : (lim : Limits) (again : Side) (t : Ptr) (a : Ans) {k : ℕ} → stepOf lim a ≡ stopped k → next lim again t a ≡ no k
 next-stopped lim again t (missed m) q = absurd (omega (arith, ap nameOf q))
