@@ -31,7 +31,7 @@ returns-3 : tie.Need-returns-3
 returns-3 c =
     let tested = c .before in
     let told = tested .before .before .before in
-    other-count _ _ _ _ _ (told .before .before .constant-at .ensures) _ _ (told .d .given .1) (tested .if1 .left) (c .if2 .taken)
+    other-count _ _ _ _ _ (told .before .before .constant-at .ensures) _ _ (told .d .given .1) (tested .if1 .left) λ e. let f = c .if2 .taken in omega arith
 
 argument-requires : tie.Need-argument-requires
 argument-requires c κs =
@@ -42,7 +42,7 @@ returns-4 : tie.Need-returns-4
 returns-4 c =
     let tested = c .before .before in
     let told = tested .before .before .before in
-    the-element _ _ _ _ _ (told .before .before .constant-at .ensures) _ _ (told .d .given .1) (tested .if1 .left) (c .before .if2 .left) _ (c .argument .ensures)
+    the-element _ _ _ _ _ (told .before .before .constant-at .ensures) _ _ (told .d .given .1) (tested .if1 .left) (let e = c .before .if2 .left in omega arith) _ (c .argument .ensures)
 
 pub quot-made-spec : {M : Type 1} → statement M
 quot-made-spec =
