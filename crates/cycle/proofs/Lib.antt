@@ -3,3 +3,4 @@ pub mod WaysOut
 pub mod Projecting
 pub mod Quotients
 pub mod Constants
+pub mod Heads
