@@ -4,3 +4,4 @@ pub mod Projecting
 pub mod Quotients
 pub mod Constants
 pub mod Heads
+pub mod Computing

@@ -26,9 +26,10 @@ use Rattle.state.specs.declared.Given.{Given}
 use Rattle.state.specs.declared.Meter.{Meter}
 use Rattle.state.specs.declared.Answer.{Answer}
 use Rattle.state.specs.declared.Answer.the-variants.{Final, Refused}
+use Rattle.state.specs.declared.Reduced.{Reduced}
 use Rattle.state.specs.declared.Reduced.the-variants as reduced
 use Rattle.state.specs.State.{tallyOf, limitsIn, Left}
-use Rattle.cycle.specs.Cycle.{Asked, Counted, Passed, Ran, resBy}
+use Rattle.cycle.specs.Cycle.{Asked, Counted, Passed, Ran, resAs, resBy}
 use Rattle.cycle.specs.Course.{ended, parts-in, fires-in}
 use Rattle.cycle.proofs.Standing.{left-on, ran-passed, limits-on, counted-on, to-depth, Next, after-side}
 
@@ -105,3 +106,11 @@ module _ {l ds rs cs sc : List ℕ} {g : Given} {m : Meter} {t : Ptr} {count : �
       left-as
       (ap (λ (n : Limits). fireIn n (tallyOf l sc₁ m₁) z xs) (limits-on g passed) ∙ fires-in lim (tallyOf l sc₁ m₁) z xs (q-asked .stand .sane) h ∙ ap (stepOf lim) (sym q))
       (left-on passed k)
+
+  -- an answer from there on, when the evaluator's own is known
+  pub through : (a : Ans) {o : Answer} {sc₂ : List ℕ} → Left l sc₁ m₁ o sc₂ (stepOf (limitsIn g sc₁) a) → Left l sc m o sc₂ (stepOf lim a)
+  through a k = left-as (ap (λ (n : Limits). stepOf n a) (limits-on g passed)) (left-on passed k)
+
+  -- a second side reduction, from the rows that the first left, under the limits of the start
+  pub second-says : (y : Ptr) {o : Reduced} {sc₂ : List ℕ} → Ran l sc₁ m₁ o sc₂ (resBy l ds rs cs sc₁ g m₁ n (ptrOf y)) → sd (tallyOf l sc₁ m₁) (ptrOf y) ≡ resAs o l sc₂
+  second-says y k = ap (λ (z : Limits). sideAt Here z n (tallyOf l sc₁ m₁) (ptrOf y)) (sym (limits-on g passed)) ∙ sym (k .says)
