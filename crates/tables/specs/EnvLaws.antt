@@ -31,12 +31,12 @@ role-read (arith mod′) = refl
 role-read (arith beq) = refl
 role-read (arith ble) = refl
 
-value-read : {flag r s : ℕ} {v : Option Ptr} → IsValue flag r s v → v ≡ valueBy flag (ptr r s)
+pub value-read : {flag r s : ℕ} {v : Option Ptr} → IsValue flag r s v → v ≡ valueBy flag (ptr r s)
 unfolding valueBy
 value-read absent = refl
 value-read present = refl
 
-rule-read : {ws : List ℕ} {ρ : Rule} → IsRule ws ρ → ρ ≡ ruleOf ws
+pub rule-read : {ws : List ℕ} {ρ : Rule} → IsRule ws ρ → ρ ≡ ruleOf ws
 unfolding ruleOf
 rule-read rule-words = refl
 

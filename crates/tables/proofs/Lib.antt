@@ -1,0 +1,11 @@
+pub mod Reading
+pub mod Holding
+pub mod ClauseTests
+pub mod FormTests
+pub mod Listed
+pub mod ScopeLaws
+pub mod DeclLaws
+pub mod EntryLaws
+pub mod Kept
+pub mod Roles
+pub mod Accepting
