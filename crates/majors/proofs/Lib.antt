@@ -4,3 +4,6 @@ pub mod Outcomes
 pub mod Turns
 pub mod NumberRows
 pub mod Constructing
+pub mod Runs
+pub mod Ruling
+pub mod ForCallers

@@ -207,15 +207,15 @@ abbrev pub threeRuns : List rules.Ptr → ℕ → ℕ → List rules.Ptr → ℕ
 threeRuns xs before after ys fields = take before xs ++ drop (length ys - fields) ys ++ drop after xs
 
 -- both spines are counted and in scope, the runs lie inside them, and the rule's value stands
-pub record RunsApply (l sc : List ℕ) (nlib m : ℕ) (rule t : Ptr) (count before after : ℕ) (made : Ptr) (made-count fields : ℕ) : Type 0 where
+pub record RunsApply (l sc : List ℕ) (nlib m : ℕ) (rule t : Ptr) (count before after : ℕ) (made : Ptr) (arity fields : ℕ) : Type 0 where
   pub depth : ℕ
   pub small : depth ≤ most-bound
   pub used : Used l sc nlib m
   pub scope : InScope (storeOf l sc m) depth (ptrOf t)
   pub counted : length (argsOf (storeOf l sc m) (ptrOf t)) ≡ count
   pub made-scope : InScope (storeOf l sc m) depth (ptrOf made)
-  pub made-counted : length (argsOf (storeOf l sc m) (ptrOf made)) ≡ made-count
+  pub made-counted : length (argsOf (storeOf l sc m) (ptrOf made)) ≡ arity
   pub value : Good (storeOf l sc m) (ptrOf rule)
   pub before-inside : before ≤ count
   pub after-inside : after ≤ count
-  pub fields-inside : fields ≤ made-count
+  pub fields-inside : fields ≤ arity

@@ -11,23 +11,30 @@ use rows::shape_of;
 use rows::writer::make_const;
 use rows::writer::make_number;
 use spine::Spined;
+use spine::apply;
 use spine::apply_one;
 use spine::head_of;
 use state::Answer;
 use state::Given;
 use state::Meter;
 use state::NOBODY;
+use tables::RuleFound;
+use tables::rule_for;
 ghost use mathlib.Core.Path.{_≡_};
 ghost use Prim.Native.Nat.{_+_, _*_, _/_, _-_, _<_, _≤_};
 ghost use lib.ListN.{length, getD};
 ghost use Rattle.rules.specs.Declarations.{opCode};
 ghost use Rattle.rules.specs.HeadTests.{numberMade};
+ghost use Rattle.course.specs.Charged.{joinIn};
+ghost use Rattle.ways.specs.Spines.{argsOf};
+ghost use Rattle.tables.specs.Records.{recordsFrom};
+ghost use Rattle.tables.specs.Env.{ruleOf};
 ghost use Rattle.arith.specs.Meaning.{opOf, valueOf};
 ghost use Rattle.rows.specs.Words.{ptrOf, storeOf, Held};
 ghost use Rattle.rows.specs.Writes.{Wrote};
 ghost use Rattle.spine.specs.Walks.{Walks};
-ghost use Rattle.state.specs.State.{Used};
-ghost use Rattle.majors.specs.Majors.{NumberAt, MayFire, TruthHeld, OutcomeLeft, truthCode, answered, Major, majorOf, Constructed, ConstantMade, succIn, madeFrom};
+ghost use Rattle.state.specs.State.{tallyOf, limitsIn, Used, Left};
+ghost use Rattle.majors.specs.Majors.{NumberAt, MayFire, TruthHeld, OutcomeLeft, truthCode, answered, Major, majorOf, Constructed, ConstantMade, succIn, madeFrom, RunsApply, threeRuns, MayRule, ruledBy, ruledStep};
 
 // The codes of the roles whose holders are written here.
 const ZERO: usize = 2;
@@ -238,4 +245,82 @@ pub fn constructor_of(library: &[u32], scratch: &mut [u32], g: Given, m: Meter, 
         return constant_made(library, &scratch[..], m, q);
     };
     number_made(library, scratch, g, m, n)
+}
+
+// A rule's value applied in turn: to the recursor's arguments before the indices, to the constructor's last fields, and to what
+// stands after the major.
+fn apply_rule(
+    library: &[u32],
+    scratch: &mut [u32],
+    nlib: u32,
+    mark: u32,
+    rule: Ptr,
+    t: Ptr,
+    count: u32,
+    before: u32,
+    after: u32,
+    made: Ptr,
+    arity: u32,
+    fields: u32,
+) -> Out
+    requires { ⌜ RunsApply (now library) (now scratch) nlib mark rule t count before after made arity fields ⌝ }
+    ensures { λ r. ⌜ Wrote (now (library .entry)) (now (scratch .entry)) mark r (now (scratch .exit)) (joinIn (nlib + length (now (scratch .entry)) / 9) (storeOf (now (library .entry)) (now (scratch .entry)) mark) (ptrOf rule) (threeRuns (argsOf (storeOf (now (library .entry)) (now (scratch .entry)) mark) (ptrOf t)) before after (argsOf (storeOf (now (library .entry)) (now (scratch .entry)) mark) (ptrOf made)) fields)) ⌝ }
+{
+    let first = apply(library, scratch, nlib, mark, rule, t, count, 0, before);
+    let Out::Done(p, m1) = first else {
+        return first;
+    };
+    let from = arity - fields;
+    let second = apply(library, scratch, nlib, m1, p, made, arity, from, arity);
+    let Out::Done(q, m2) = second else {
+        return second;
+    };
+    apply(library, scratch, nlib, m2, q, t, count, after, count)
+}
+
+// The first rule for the constructor, with at least its field count of arguments: 4, then the rows of the result.
+pub fn by_rule(
+    library: &[u32],
+    rules: &[u32],
+    scratch: &mut [u32],
+    g: Given,
+    m: Meter,
+    first: u32,
+    many: u32,
+    constructor: u32,
+    made: Ptr,
+    sp: Spined,
+    t: Ptr,
+    count: u32,
+    before: u32,
+    position: u32,
+) -> Answer
+    requires { ⌜ MayRule (now library) (now rules) (now scratch) g m first many made sp t count before position ⌝ }
+    ensures { λ r. ⌜ Left (now (library .entry)) (now (scratch .entry)) m r (now (scratch .exit)) (ruledStep (limitsIn g (now (scratch .entry))) (tallyOf (now (library .entry)) (now (scratch .entry)) m) (ruledBy (recordsFrom 4 (now (rules .entry)) ruleOf first many) constructor (argsOf (storeOf (now (library .entry)) (now (scratch .entry)) (m .mark)) (ptrOf made)) before position (argsOf (storeOf (now (library .entry)) (now (scratch .entry)) (m .mark)) (ptrOf t)))) ⌝ }
+{
+    let RuleFound::Found(rule) = rule_for(rules, first, many, constructor) else {
+        return Answer::Final(m);
+    };
+    if sp.count < rule.fields {
+        return Answer::Final(m);
+    }
+    if g.steps <= m.steps {
+        return Answer::Refused(4);
+    }
+    let value = rule.value;
+    let out = apply_rule(
+        library,
+        scratch,
+        g.nlib,
+        m.mark,
+        value,
+        t,
+        count,
+        before,
+        position + 1,
+        made,
+        sp.count,
+        rule.fields,
+    );
+    fired(m, out)
 }
