@@ -63,7 +63,7 @@ run-one i xs x e =
 -- ARGUMENTS APPLIED IN TURN
 
 module _ (most : ℕ) where
-  join-append : (s : Store) (p : rules.Ptr) (xs ys : List rules.Ptr) →
+  pub join-append : (s : Store) (p : rules.Ptr) (xs ys : List rules.Ptr) →
       joinIn most s p (xs ++ ys) ≡ and-on (joinIn most s p xs) (λ g. joinIn most (g .store) (g .at) ys)
   unfolding joinIn
   join-append s p [] ys = refl

@@ -1,0 +1,9 @@
+pub mod HeadRows
+pub mod Firing
+pub mod Outcomes
+pub mod Turns
+pub mod NumberRows
+pub mod Constructing
+pub mod Runs
+pub mod Ruling
+pub mod ForCallers
