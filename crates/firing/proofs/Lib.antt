@@ -1,3 +1,4 @@
+pub mod Applied
 pub mod Ends
 pub mod Opening
 pub mod Unfolding

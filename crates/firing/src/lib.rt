@@ -6,6 +6,7 @@ use rows::Out;
 use rows::Ptr;
 use rows::shift_up;
 use spine::apply;
+use spine::apply_one;
 use state::Answer;
 use state::Given;
 use state::Meter;
@@ -14,10 +15,12 @@ use tables::ValueFound;
 use tables::value_of;
 ghost use mathlib.Core.Path.{_≡_};
 ghost use Prim.Native.Nat.{_+_, _/_, _<_, _≤_};
+ghost use mathlib.Core.List.{_∷_};
 ghost use mathlib.Core.Option.{some};
 ghost use lib.ListN.{length, drop};
 ghost use Rattle.rules.specs.Firings.{itself, opened};
 ghost use Rattle.course.specs.Charged.{joinIn};
+ghost use Rattle.substitution.specs.Stores.{Good};
 ghost use Rattle.ways.specs.Steps.{outStep, fireIn};
 ghost use Rattle.ways.specs.Spines.{argsOf};
 ghost use Rattle.rows.specs.Words.{ptrOf, storeOf};
@@ -99,6 +102,38 @@ pub fn open(
         by,
     };
     match replace(library, scratch, g.nlib, m.mark, body, 0, x) {
+        Out::Done(p, mark) => {
+            let at = Meter {
+                mark,
+                steps: m.steps,
+            };
+            apply_rest(library, scratch, g, at, p, t, count, from)
+        }
+        Out::Refused(k) => Answer::Refused(k),
+    }
+}
+
+// A pointer that stands already, applied to a and then to the arguments of t from `from` on: quotients.
+pub fn give_with(
+    library: &[u32],
+    scratch: &mut [u32],
+    g: Given,
+    m: Meter,
+    f: Ptr,
+    a: Ptr,
+    t: Ptr,
+    count: u32,
+    from: u32,
+) -> Answer
+    requires { ⌜ Headed (now library) (now scratch) g m t count ⌝ }
+    requires { ⌜ (Good (storeOf (now library) (now scratch) (m .mark)) (ptrOf f)) × (Good (storeOf (now library) (now scratch) (m .mark)) (ptrOf a)) ⌝ }
+    requires { ⌜ from ≤ count ⌝ }
+    ensures { λ r. ⌜ Left (now (library .entry)) (now (scratch .entry)) m r (now (scratch .exit)) (fireIn (limitsIn g (now (scratch .entry))) (tallyOf (now (library .entry)) (now (scratch .entry)) m) (itself (ptrOf f)) (ptrOf a ∷ drop from (argsOf (storeOf (now (library .entry)) (now (scratch .entry)) (m .mark)) (ptrOf t)))) ⌝ }
+{
+    if g.steps <= m.steps {
+        return Answer::Refused(4);
+    }
+    match apply_one(library, scratch, g.nlib, m.mark, f, a) {
         Out::Done(p, mark) => {
             let at = Meter {
                 mark,
