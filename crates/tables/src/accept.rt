@@ -112,7 +112,9 @@ fn check_decls<'a>(
         }
         let role = declarations[16 * (j as usize) + 7];
         if !role_ok(seen, role) {
-            return Checked::Broken(j);
+            // the place is the second holder's number, not the first's
+            let second = j;
+            return Checked::Broken(second);
         }
         seen[role as usize] = 1;
         j += 1;
