@@ -1,15 +1,15 @@
 -- What the words at a term's head say of it: which declaration it names, or that it is no constant.
 -- Assumes rows that pass and a term in scope.
-use Prim.Native.Nat.{ℕ, zero, suc, _+_, _*_, _/_, _≤_, _<_}
+use Prim.Native.Nat.{ℕ, zero, suc, _+_, _*_, _≤_, _<_}
 use native.Mathlib.Omega.{arith}
 use mathlib.Core.Path.{_≡_, refl, sym, ap, ap₂, _∙_}
 use mathlib.Core.List.{List}
-use mathlib.Core.Option.{Option, none, some}
+use mathlib.Core.Option.{none, some}
 use lib.ListN.{length}
 use Rattle.rules.specs.Kinds.{table}
 use Rattle.rules.specs.Rows as rules
 use Rattle.rules.specs.Rows.{Row, Store, rowAt}
-use Rattle.rules.specs.RowCheck.{InRange, sort-in, const-in, app-in, lam-in, pi-in, let-in, proj-in, num-in, AllPass}
+use Rattle.rules.specs.RowCheck.{sort-in, const-in, app-in, lam-in, pi-in, let-in, proj-in, num-in, AllPass}
 use Rattle.rules.specs.Accepted.{part}
 use Rattle.rules.specs.HeadTests.{asConstant}
 use Rattle.substitution.specs.Passing.{Worded, var-worded, node-worded, pass-worded}

@@ -6,9 +6,9 @@ use spine::argument;
 use spine::head_of;
 use tables::Decl;
 use tables::decl_at;
-ghost use mathlib.Core.Path.{_≡_};
 ghost use Rattle.fields.specs.Fields.{Reduced, ConstantAt, FieldAt, QuotMade};
 
+// A row's kind, a declaration's kind, a role's code.
 const CONSTANT: u32 = 2;
 
 const CONSTRUCTOR: u32 = 1;

@@ -1,6 +1,6 @@
 -- `fields::constant_at` meets its contract: the head's row is looked at, and a constant's declaration is read.
 -- Assumes nothing.
-use mathlib.Core.Path.{_≡_, ap, _∙_}
+use mathlib.Core.Path.{ap, _∙_}
 use Rattle.rows.specs.Words.{shapeAt}
 use Rattle.rows.proofs.Lookup.{nine-read}
 use Rattle.fields.proofs.Constants.{walks-to, head-stands, declared, at-constant, at-no-constant}

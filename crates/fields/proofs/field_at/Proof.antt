@@ -4,10 +4,6 @@ use borrow.Author.Needs.{needs}
 use Rattle.fields.proofs.Taking.{no-constant-field, no-constructor, no-such-field, the-field, may-take}
 use Rattle.fields.proofs.field_at.Statement.{statement}
 use Rattle.fields.proofs.field_at.Tie as tie
-use Rattle.fields.proofs.field_at.Reads as reads
-use Rattle.fields.proofs.field_at.Lts as lts
-use Rattle.fields.proofs.constant_at.Reads as constant-at-reads
-use Rattle.spine.proofs.argument.Reads as argument-reads
 
 constant-at-requires : tie.Need-constant-at-requires
 constant-at-requires c κs = search needs

@@ -5,10 +5,6 @@ use native.Mathlib.Omega.{arith}
 use Rattle.fields.proofs.Taking.{no-constant-element, no-quot-mk, other-count, the-element, may-take}
 use Rattle.fields.proofs.quot_made.Statement.{statement}
 use Rattle.fields.proofs.quot_made.Tie as tie
-use Rattle.fields.proofs.quot_made.Reads as reads
-use Rattle.fields.proofs.quot_made.Lts as lts
-use Rattle.fields.proofs.constant_at.Reads as constant-at-reads
-use Rattle.spine.proofs.argument.Reads as argument-reads
 
 constant-at-requires : tie.Need-constant-at-requires
 constant-at-requires c κs = search needs
