@@ -5,3 +5,4 @@ pub mod Quotients
 pub mod Constants
 pub mod Heads
 pub mod Computing
+pub mod Recursing
