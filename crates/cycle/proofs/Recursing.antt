@@ -1,6 +1,6 @@
 -- The ways out of a recursor: not tried; refused in the major's reduction; no constructor; its rows refused; no rule for it; the rule fires.
 -- Assumes what the member is given.
-use Prim.Native.Nat.{ℕ, _+_, _*_, _/_}
+use Prim.Native.Nat.{ℕ, _*_}
 use mathlib.Core.Path.{_≡_, refl, sym, ap, _∙_, subst}
 use mathlib.Core.List.{List}
 use mathlib.Core.Option.{Option, none, some}
@@ -9,15 +9,20 @@ use Rattle.rules.specs.Rows as rules
 use Rattle.rules.specs.Rows.{Store, grow}
 use Rattle.rules.specs.RowCheck.{InScope}
 use Rattle.rules.specs.Declarations.{Recursor, Decl, Env, declAt}
-use Rattle.rules.specs.Firings.{Tally, tally, itself}
-use Rattle.rules.specs.HeadTests.{Made, Ruled, rec-parts, recParts, byRule}
+use Rattle.rules.specs.Firings.{Tally, tally, itself, Written}
+use Rattle.rules.specs.HeadTests.{Ruled, rec-parts, recParts, byRule}
 use Rattle.rules.specs.Refusals.{Limits}
 use Rattle.course.specs.Tries.{recursion}
-use Rattle.course.specs.Eval.{Ans, missed, firing, charge, try, sideAt}
+use Rattle.course.specs.Eval.{Ans, charge, try, sideAt}
+use Rattle.substitution.specs.Stores.{ext-then}
+use Rattle.substitution.specs.Passing.{pass-worded}
+use Rattle.promises.specs.Stores.{ext-grow}
+use Rattle.promises.specs.SaysCharge.{ChargeSays, c-all, charge-says}
 use Rattle.safety.specs.Lists.{none-some}
-use Rattle.safety.specs.Sane.{depthOf, Sane}
-use Rattle.safety.specs.Safe.{Safe, safe-recursion}
-use Rattle.ways.specs.Steps.{Step, final, stopped, stepOf, fireIn}
+use Rattle.safety.specs.Sane.{depthOf, declCount, Sane, sane-later}
+use Rattle.safety.specs.Scope.{all-later, itself-in}
+use Rattle.safety.specs.Parts.{grow-pass, MadeIn, constructor-in, rec-in, RuledIn, by-rule-in}
+use Rattle.ways.specs.Steps.{Step, final, stepOf, fireIn}
 use Rattle.ways.specs.Spines.{argsOf}
 use Rattle.ways.specs.Ways.{rec-none, rec-refused, rec-no-constructor, rec-rows-refused, rec-missed, rec-fires}
 use Rattle.rows.specs.declared.Ptr.{Ptr}
@@ -33,8 +38,9 @@ use Rattle.state.specs.State.{tallyOf, limitsIn, Left}
 use Rattle.majors.specs.Majors.{Agrees, majorOf, NotMade, RefusedMade, MadeAs}
 use Rattle.majors.proofs.ForCallers.{holders-agree}
 use Rattle.cycle.specs.Cycle.{Counted, Passed, Ran, stepBy, resBy}
-use Rattle.cycle.proofs.Standing.{nothing-passed, ran-passed, limits-on, left-on, passed-on}
-use Rattle.cycle.proofs.WaysOut.{refused-left, final-left, left-as, side-ended, missed-after, through}
+use Rattle.cycle.specs.Course.{parts-in, fires-in}
+use Rattle.cycle.proofs.Standing.{to-depth, stand-within, nothing-passed, ran-passed, limits-on, left-on, passed-on}
+use Rattle.cycle.proofs.WaysOut.{refused-left, final-left, left-as, q-asked, grown-store, major-arguments, side-ended, missed-after, through}
 
 module _ (l ds rs cs sc : List ℕ) (g : Given) (m : Meter) (t : Ptr) (n d levels : ℕ) where
   -- the member's promise
@@ -109,14 +115,40 @@ module _ {l ds rs cs sc : List ℕ} {g : Given} {m : Meter} {t : Ptr} {count : �
             final-left through-both
             (ap final tally-is ∙ sym (ap (stepOf (limitsIn g sc)) (rec-missed e _ _ D levels xs parts (side-ended c n i r) (h .is) (charged-as (h .made .rows) (h .charged)) q)))
 
-        -- the rule fires in the rows that are left; that the firing's rows are there at all is asked of the caller
+        -- the constructor's rows pass, so the store that they stand in is sane ..
+        made-scope : MadeIn (declCount e) s₁ (depthOf e) (h .made)
+        made-scope =
+            let there = q-asked c n i r .stand .sane .pass in
+            constructor-in e (pass-worded there .each _) (major-arguments c n i r) (h .is)
+
+        made-written : Written s₁ (grow s₁ (h .made .rows))
+        made-written = on (subst (ChargeSays lim s₁ (grow s₁ (h .made .rows))) (h .charged) (charge-says lim s₁ _ (ext-grow s₁ (h .made .rows)) (stand-within (q-asked c n i r .stand) .rows)))
+          where
+            lim : Limits
+            lim = limitsIn g sc₁
+
+            on : ChargeSays (limitsIn g sc₁) s₁ (grow s₁ (h .made .rows)) none → Written s₁ (grow s₁ (h .made .rows))
+            on (c-all w k) = w
+
+        made-sane : Sane e (grow s₁ (h .made .rows))
+        made-sane =
+            let there = q-asked c n i r .stand .sane in
+            sane-later (ext-grow s₁ (h .made .rows)) (grow-pass (there .pass) (made-scope .rows) made-written) there
+
+        -- .. and so the rule's value and its arguments are in scope, and the firing's rows are there
+        ruled-scope : {ρ : Ruled} → byRule o xs (h .made) ≡ some ρ → RuledIn (grow s₁ (h .made .rows)) (depthOf e) ρ
+        ruled-scope q =
+            let args = parts-in (c .asked .stand .sane) (to-depth (c .asked .stand) (c .asked .scope)) .arguments in
+            by-rule-in o (h .made) (λ j x k. made-sane .rule d o j x (rec-in D levels args parts .form) k)
+            (all-later (ext-then (grown-store c n i r) (ext-grow s₁ (h .made .rows))) args) (made-scope .arguments) q
+
+        -- the rule fires in the rows that are left
         pub rule-fires : {ρ : Ruled} {a : Answer} {sc₃ : List ℕ} → byRule o xs (h .made) ≡ some ρ →
-            fireIn (limitsIn g sc) (tallyOf l sc₂ m₂) (itself (ρ .value)) (ρ .arguments) ≡ stepOf (limitsIn g sc) (firing (tallyOf l sc₂ m₂) (itself (ρ .value)) (ρ .arguments)) →
             Left l sc₂ m₂ a sc₃ (fireIn (limitsIn g sc₂) (tallyOf l sc₂ m₂) (itself (ρ .value)) (ρ .arguments)) → Left l sc m a sc₃ (recursed l ds rs cs sc g m t n d levels)
-        rule-fires {ρ} q fits k =
+        rule-fires {ρ} q k =
             left-as
             (ap (λ (z : Limits). fireIn z (tallyOf l sc₂ m₂) (itself (ρ .value)) (ρ .arguments)) (limits-on g through-both)
-            ∙ fits
-            ∙ ap (λ (z : Tally). stepOf (limitsIn g sc) (firing z (itself (ρ .value)) (ρ .arguments))) tally-is
+            ∙ ap (λ (z : Tally). fireIn (limitsIn g sc) z (itself (ρ .value)) (ρ .arguments)) tally-is
+            ∙ fires-in (limitsIn g sc) (tally (m₁ .steps) (grow s₁ (h .made .rows))) (itself (ρ .value)) (ρ .arguments) made-sane (itself-in (ruled-scope q .value))
             ∙ sym (ap (stepOf (limitsIn g sc)) (rec-fires e _ _ D levels xs parts (side-ended c n i r) (h .is) (charged-as (h .made .rows) (h .charged)) q)))
             (left-on through-both k)
