@@ -1,6 +1,6 @@
 -- The major as a constructor, way by way: nothing, a constant as it stands, a number's rows written or refused.
 -- Assumes rows that are used.
-use Prim.Native.Nat.{ℕ, zero, suc, _+_, _*_, _-_, _/_, _≤_, _<_}
+use Prim.Native.Nat.{ℕ, suc, _+_, _-_, _/_, _≤_}
 use native.Mathlib.Omega.{arith}
 use mathlib.Core.Path.{_≡_, refl, sym, ap, _∙_, subst}
 use mathlib.Core.Bool.{Bool}
@@ -12,9 +12,9 @@ use lib.Seq.{drop-length}
 use Rattle.rules.specs.Maxima.{most-number}
 use Rattle.rules.specs.Kinds.{const, num, app}
 use Rattle.rules.specs.Rows as rules
-use Rattle.rules.specs.Rows.{Row, Store, Got, got, put, leaf, node, ptr, blank, grow}
+use Rattle.rules.specs.Rows.{Row, Store, Got, put, leaf, node, ptr, blank, grow}
 use Rattle.rules.specs.RowCheck.{AllPass, InScope}
-use Rattle.rules.specs.Declarations.{Role, zero′, succ′, Env, roleCode, holder}
+use Rattle.rules.specs.Declarations.{zero′, succ′, Env}
 use Rattle.rules.specs.HeadTests as heads
 use Rattle.rules.specs.HeadTests.{given, asConstant, asNumber, numberMade, madeOn, asConstructor}
 use Rattle.rules.specs.Refusals.{Limits}

@@ -1,23 +1,22 @@
 -- A firing as the code ends it: 4 first, then the number, then the rows. Rows written where the step is there are the firing's answer.
 -- Assumes nothing.
-use Prim.Native.Nat.{ℕ, suc, _+_, _*_, _≤_, _<_}
+use Prim.Native.Nat.{ℕ, _+_, _≤_, _<_}
 use native.Mathlib.Omega.{arith}
 use native.Mathlib.Numerals.{add-one}
-use mathlib.Core.Path.{_≡_, refl, sym, ap, _∙_, subst}
+use mathlib.Core.Path.{_≡_, refl, ap, _∙_, subst}
 use mathlib.Core.List.{List, []}
-use mathlib.Core.Option.{Option, none, some}
-use lib.ListN.{length}
+use mathlib.Core.Option.{none, some}
 use Rattle.rules.specs.Maxima.{most-number}
 use Rattle.rules.specs.Kinds.{const, num}
 use Rattle.rules.specs.Rows as rules
-use Rattle.rules.specs.Rows.{Store, leaf, got}
+use Rattle.rules.specs.Rows.{leaf, got}
 use Rattle.rules.specs.Firings.{Tally, tally, Result, itself, a-number, a-constant, NumberFits, itself-fits, number-fits, constant-fits}
 use Rattle.rules.specs.Refusals.{Limits}
 use Rattle.course.specs.Views.{Cmp, at-most, over, cmp, NumberView, in-range, too-big, numberView}
 use Rattle.course.specs.Charged as course
 use Rattle.course.specs.Charged.{and-on, putIn, joinIn, giveIn, dueIn}
 use Rattle.ways.specs.Steps as ways
-use Rattle.ways.specs.Steps.{Step, stopped, outStep, fireInOn, fireIn}
+use Rattle.ways.specs.Steps.{stopped, outStep, fireInOn, fireIn}
 use Rattle.rows.specs.declared.Out.{Out}
 use Rattle.rows.specs.declared.Out.the-variants.{Done, Refused}
 use Rattle.rows.specs.Words.{ptrOf, storeOf}

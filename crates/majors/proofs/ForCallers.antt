@@ -1,12 +1,12 @@
 -- What a caller reads off the promises: the outcome's answer as the state's `Left`, the recursor's rule as the rules' `byRule`, and an environment
 -- that agrees with the table of holders.
 -- Assumes nothing.
-use Prim.Native.Nat.{ℕ, _≤_}
-use mathlib.Core.Path.{_≡_, refl, sym, ap₂, ap, _∙_}
+use Prim.Native.Nat.{ℕ}
+use mathlib.Core.Path.{_≡_, refl, sym}
 use mathlib.Core.List.{List, []}
 use mathlib.Core.Option.{some}
 use Rattle.rules.specs.Rows as rules
-use Rattle.rules.specs.Declarations.{Rule, Recursor, Env}
+use Rattle.rules.specs.Declarations.{Recursor, Env}
 use Rattle.rules.specs.Arithmetic.{Computed}
 use Rattle.rules.specs.Firings.{Result}
 use Rattle.rules.specs.HeadTests as heads

@@ -1,21 +1,21 @@
 -- What the words at a term's own row, or at its head's, say of the major: which number or which constant it is, or that it is none.
 -- Assumes rows that are used and a term in scope.
-use Prim.Native.Nat.{ℕ, zero, suc, _+_, _<_}
+use Prim.Native.Nat.{ℕ, zero, suc}
 use native.Mathlib.Omega.{arith}
 use mathlib.Core.Path.{_≡_, refl, sym, ap, ap₂, _∙_, subst}
 use mathlib.Core.List.{List, [], _∷_}
-use mathlib.Core.Option.{Option, none, some}
+use mathlib.Core.Option.{none, some}
 use lib.ListN.{length}
-use Rattle.rules.specs.Kinds.{Kind, sort, const, app, lam, pi, let′, proj, num, table}
+use Rattle.rules.specs.Kinds.{sort, const, app, lam, pi, let′, proj, num, table}
 use Rattle.rules.specs.Rows as rules
 use Rattle.rules.specs.Rows.{Row, var, node, leaf, Store, rowAt}
 use Rattle.rules.specs.RowCheck.{InScope}
 use Rattle.rules.specs.Spines.{Spine, head, through, NoApp, no-num}
 use Rattle.rules.specs.Arithmetic.{wordsValue}
 use Rattle.rules.specs.HeadTests.{asConstant, asNumber}
-use Rattle.substitution.specs.Stores.{Formed, Good, scope-good}
+use Rattle.substitution.specs.Stores.{Formed, scope-good}
 use Rattle.substitution.specs.Passing.{pass-formed}
-use Rattle.ways.specs.Spines.{headOf, argsOf, head-is, args-are, spine-of}
+use Rattle.ways.specs.Spines.{argsOf, head-is, args-are, spine-of}
 use Rattle.rows.specs.declared.Ptr.{Ptr}
 use Rattle.rows.specs.declared.Shape.{Shape}
 use Rattle.rows.specs.Words.{ptrOf, kindOf, tagsAt, rowBy, rowOf, shapeAt, wordsAt, storeOf, whole, Stands}

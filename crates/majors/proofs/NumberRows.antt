@@ -1,16 +1,16 @@
 -- The rows of a number as a constructor: charged one by one they are the rules' rows charged in turn; when they are paid all rows pass, and the
 -- spine at the last of them has the constructor's arguments.
 -- Assumes a store whose rows pass.
-use Prim.Native.Nat.{ℕ, zero, suc, _+_, _≤_, _<_, max}
+use Prim.Native.Nat.{ℕ, suc, _≤_, _<_}
 use native.Mathlib.Omega.{arith}
 use mathlib.Core.Path.{_≡_, refl, sym, ap, _∙_, subst}
-use mathlib.Core.List.{List, [], _∷_, _++_}
+use mathlib.Core.List.{List, [], _∷_}
 use mathlib.Core.Option.{Option, none, some}
 use lib.ListN.{length}
 use Rattle.rules.specs.Maxima.{most-number}
-use Rattle.rules.specs.Kinds.{Kind, sort, const, app, lam, pi, let′, proj, num, plain, Tags, tags, table, fields}
-use Rattle.rules.specs.Rows.{Ptr, ptr, blank, Row, var, node, leaf, Cell, Store, cellAt, rowAt, boundOn, bound, upOn, up, fieldBound, cell, grow, Got, got, put}
-use Rattle.rules.specs.RowCheck.{InRange, sort-in, const-in, app-in, lam-in, pi-in, let-in, proj-in, num-in, FieldOk, plain-ok, RowOk, var-ok, node-ok, AllPass, InScope}
+use Rattle.rules.specs.Kinds.{Kind, const, app, num, plain, tags, table, fields}
+use Rattle.rules.specs.Rows.{Ptr, ptr, blank, Row, node, leaf, Cell, Store, cellAt, rowAt, bound, up, fieldBound, cell, grow, Got, got, put}
+use Rattle.rules.specs.RowCheck.{InRange, sort-in, const-in, app-in, lam-in, pi-in, let-in, proj-in, num-in, plain-ok, RowOk, var-ok, node-ok, AllPass, InScope}
 use Rattle.rules.specs.Spines.{Spine, head, through, NoApp, no-const, joined}
 use Rattle.rules.specs.Firings.{a-number, a-constant}
 use Rattle.rules.specs.Refusals.{Limits}
@@ -18,10 +18,10 @@ use Rattle.course.specs.Charged as course
 use Rattle.course.specs.Charged.{and-on, putIn, joinIn, giveIn}
 use Rattle.course.specs.Eval.{charge, give}
 use Rattle.promises.specs.Charge.{settleOn, settle, first-of, charge-append, give-in, join-in}
-use Rattle.substitution.specs.Stores.{FieldsOk, node-fields, Good, Ext, ext-put, ext-then, ext-cell, ext-row, ext-good, end-cell, end-row, put-length, put-good}
-use Rattle.substitution.specs.Passing.{Worded, node-worded, pass-formed}
+use Rattle.substitution.specs.Stores.{FieldsOk, node-fields, Ext, ext-put, ext-then, ext-cell, ext-good, end-cell, end-row, put-length}
+use Rattle.substitution.specs.Passing.{node-worded, pass-formed}
 use Rattle.ways.specs.Spines.{argsOf, args-are}
-use Rattle.ways.specs.Stages.{Stage, put-stage, app-stage, PutAt, put-at}
+use Rattle.ways.specs.Stages.{Stage, put-stage, app-stage, put-at}
 use Rattle.majors.specs.Majors.{succIn}
 
 -- A ROW, AND ROWS IN TURN, ARE CHARGED AS THE RULES CHARGE THEM

@@ -1,7 +1,7 @@
 -- What arithmetic gives, as every environment that agrees with the table of holders has it: the number, or the constant that holds the truth
 -- value; and so the row that is due for it, or refusal 7.
 -- Assumes nothing.
-use Prim.Native.Nat.{ℕ, _+_, _*_, _/_, _%_, _-_, _^_, _≤_, _<_}
+use Prim.Native.Nat.{ℕ, _+_, _/_, _%_, _-_, _^_, _≤_, _<_}
 use native.Mathlib.Omega.{arith}
 use mathlib.Core.Path.{_≡_, refl, sym, ap, _∙_}
 use mathlib.Core.Bool.{Bool, true, false}
@@ -18,11 +18,10 @@ use Rattle.rules.specs.Arithmetic.{Computed, number, truth, wordsValue}
 use Rattle.rules.specs.Firings.{Tally, Result, a-number, a-constant}
 use Rattle.rules.specs.HeadTests.{given, outcome}
 use Rattle.rules.specs.Refusals.{Limits}
-use Rattle.course.specs.Charged as course
 use Rattle.course.specs.Charged.{putIn}
 use Rattle.ways.specs.Steps.{Step, stopped, outStep, fireIn}
 use Rattle.arith.specs.declared.Outcome.{Outcome}
-use Rattle.arith.specs.Meaning.{Said, words, refusal, pick, meaning, settled}
+use Rattle.arith.specs.Meaning.{words, refusal, pick, meaning, settled}
 use Rattle.arith.specs.Meaning as said
 use Rattle.rows.specs.declared.Out.{Out}
 use Rattle.rows.specs.Words.{ite, storeOf}

@@ -1,6 +1,6 @@
 -- The rule of a recursor, way by way: no rule for the constructor, too few arguments for its fields, no step left, or the rule's value applied.
 -- Assumes what `by_rule` is given (`MayRule`).
-use Prim.Native.Nat.{ℕ, zero, suc, _+_, _*_, _-_, _/_, _≤_, _<_}
+use Prim.Native.Nat.{ℕ, suc, _+_, _*_, _-_, _/_, _≤_, _<_}
 use native.Mathlib.Omega.{arith}
 use native.Mathlib.Numerals.{add-one}
 use mathlib.Core.Path.{_≡_, refl, sym, ap, _∙_, subst}
@@ -19,7 +19,7 @@ use Rattle.rules.specs.Firings.{Tally, itself}
 use Rattle.rules.specs.Refusals.{Limits}
 use Rattle.course.specs.Charged.{joinIn}
 use Rattle.substitution.specs.Stores.{Good}
-use Rattle.ways.specs.Steps.{Step, final, stopped, outStep, fireIn}
+use Rattle.ways.specs.Steps.{Step, final, outStep, fireIn}
 use Rattle.ways.specs.Spines.{argsOf}
 use Rattle.tables.specs.declared.Rule.{Rule}
 use Rattle.tables.specs.declared.RuleFound.{RuleFound}
@@ -29,12 +29,11 @@ use Rattle.tables.specs.Env.{ruleOf}
 use Rattle.tables.specs.Read.{asRule, foundRule}
 use Rattle.rows.specs.declared.Ptr.{Ptr}
 use Rattle.rows.specs.declared.Out.{Out}
-use Rattle.rows.specs.Words.{ptrOf, storeOf, Held}
+use Rattle.rows.specs.Words.{ptrOf, storeOf}
 use Rattle.rows.specs.Writes.{Grown, Wrote}
 use Rattle.spine.specs.declared.Spined.{Spined}
 use Rattle.state.specs.declared.Given.{Given}
 use Rattle.state.specs.declared.Meter.{Meter}
-use Rattle.state.specs.declared.Answer.{Answer}
 use Rattle.state.specs.declared.Answer.the-variants as answer
 use Rattle.state.specs.State.{tallyOf, limitsIn, Left}
 use Rattle.majors.specs.Majors.{answered, threeRuns, RunsApply, ruledBy, ruledStep, MayRule}

@@ -1,17 +1,17 @@
 -- A term applied in turn to runs of two spines: the spines are read again in the rows that the runs before have written, and are the same there.
 -- Assumes what `apply_rule` is given (`RunsApply`).
-use Prim.Native.Nat.{ℕ, zero, suc, _+_, _*_, _-_, _/_, _≤_, _<_}
+use Prim.Native.Nat.{ℕ, zero, suc, _+_, _-_, _/_, _≤_}
 use native.Mathlib.Omega.{arith}
 use mathlib.Core.Path.{_≡_, refl, sym, ap, _∙_, subst}
-use mathlib.Core.List.{List, [], _∷_, _++_, append-assoc}
+use mathlib.Core.List.{List, _++_, append-assoc}
 use lib.ListN.{length, take, drop, length-drop}
 use lib.Seq.{take-all}
 use Rattle.rules.specs.Rows as rules
-use Rattle.rules.specs.Rows.{Cell, Store, Got, got, cellAt}
-use Rattle.rules.specs.RowCheck.{AllPass, InScope}
+use Rattle.rules.specs.Rows.{Cell, Store, Got, got}
+use Rattle.rules.specs.RowCheck.{InScope}
 use Rattle.course.specs.Charged as course
 use Rattle.course.specs.Charged.{and-on, joinIn}
-use Rattle.substitution.specs.Stores.{Good, Ext, ext-same, ext-then, ext-length, ext-cell, ext-bound, scope-good}
+use Rattle.substitution.specs.Stores.{Ext, ext-same, ext-then, ext-length, ext-cell, ext-bound, scope-good}
 use Rattle.substitution.specs.Passing.{pass-formed}
 use Rattle.substitution.specs.Applied.{AllGood, no-more, and-good}
 use Rattle.ways.specs.Spines as ways

@@ -5,11 +5,11 @@ use native.Mathlib.Omega.{arith}
 use mathlib.Core.Path.{_≡_, refl, sym, ap, _∙_, subst}
 use mathlib.Core.List.{List}
 use lib.ListN.{length}
-use Rattle.rules.specs.Rows.{Row, Got, Store, got}
+use Rattle.rules.specs.Rows.{Row, Got, got}
 use Rattle.course.specs.Charged as course
 use Rattle.course.specs.Charged.{and-on, putIn}
 use Rattle.substitution.specs.Stores.{put-length}
-use Rattle.ways.specs.Stages.{PutAt, put-at}
+use Rattle.ways.specs.Stages.{put-at}
 use Rattle.rows.specs.declared.Ptr.{Ptr}
 use Rattle.rows.specs.declared.Out.{Out}
 use Rattle.rows.specs.declared.Out.the-variants.{Done, Refused}

@@ -18,10 +18,11 @@ use state::Answer;
 use state::Given;
 use state::Meter;
 use state::NOBODY;
+use tables::Rule;
 use tables::RuleFound;
 use tables::rule_for;
 ghost use mathlib.Core.Path.{_≡_};
-ghost use Prim.Native.Nat.{_+_, _*_, _/_, _-_, _<_, _≤_};
+ghost use Prim.Native.Nat.{_+_, _/_, _-_, _<_, _≤_};
 ghost use lib.ListN.{length, getD};
 ghost use Rattle.rules.specs.Declarations.{opCode};
 ghost use Rattle.rules.specs.HeadTests.{numberMade};
@@ -252,25 +253,27 @@ pub fn constructor_of(library: &[u32], scratch: &mut [u32], g: Given, m: Meter, 
 fn apply_rule(
     library: &[u32],
     scratch: &mut [u32],
-    nlib: u32,
-    mark: u32,
-    rule: Ptr,
+    g: Given,
+    m: Meter,
+    rule: Rule,
     t: Ptr,
     count: u32,
     before: u32,
     after: u32,
     made: Ptr,
-    arity: u32,
-    fields: u32,
+    sp: Spined,
 ) -> Out
-    requires { ⌜ RunsApply (now library) (now scratch) nlib mark rule t count before after made arity fields ⌝ }
-    ensures { λ r. ⌜ Wrote (now (library .entry)) (now (scratch .entry)) mark r (now (scratch .exit)) (joinIn (nlib + length (now (scratch .entry)) / 9) (storeOf (now (library .entry)) (now (scratch .entry)) mark) (ptrOf rule) (threeRuns (argsOf (storeOf (now (library .entry)) (now (scratch .entry)) mark) (ptrOf t)) before after (argsOf (storeOf (now (library .entry)) (now (scratch .entry)) mark) (ptrOf made)) fields)) ⌝ }
+    requires { ⌜ RunsApply (now library) (now scratch) (g .nlib) (m .mark) (rule .value) t count before after made (sp .count) (rule .fields) ⌝ }
+    ensures { λ r. ⌜ Wrote (now (library .entry)) (now (scratch .entry)) (m .mark) r (now (scratch .exit)) (joinIn (g .nlib + length (now (scratch .entry)) / 9) (storeOf (now (library .entry)) (now (scratch .entry)) (m .mark)) (ptrOf (rule .value)) (threeRuns (argsOf (storeOf (now (library .entry)) (now (scratch .entry)) (m .mark)) (ptrOf t)) before after (argsOf (storeOf (now (library .entry)) (now (scratch .entry)) (m .mark)) (ptrOf made)) (rule .fields))) ⌝ }
 {
-    let first = apply(library, scratch, nlib, mark, rule, t, count, 0, before);
+    let nlib = g.nlib;
+    let value = rule.value;
+    let arity = sp.count;
+    let from = arity - rule.fields;
+    let first = apply(library, scratch, nlib, m.mark, value, t, count, 0, before);
     let Out::Done(p, m1) = first else {
         return first;
     };
-    let from = arity - fields;
     let second = apply(library, scratch, nlib, m1, p, made, arity, from, arity);
     let Out::Done(q, m2) = second else {
         return second;
@@ -298,29 +301,16 @@ pub fn by_rule(
     requires { ⌜ MayRule (now library) (now rules) (now scratch) g m first many made sp t count before position ⌝ }
     ensures { λ r. ⌜ Left (now (library .entry)) (now (scratch .entry)) m r (now (scratch .exit)) (ruledStep (limitsIn g (now (scratch .entry))) (tallyOf (now (library .entry)) (now (scratch .entry)) m) (ruledBy (recordsFrom 4 (now (rules .entry)) ruleOf first many) constructor (argsOf (storeOf (now (library .entry)) (now (scratch .entry)) (m .mark)) (ptrOf made)) before position (argsOf (storeOf (now (library .entry)) (now (scratch .entry)) (m .mark)) (ptrOf t)))) ⌝ }
 {
-    let RuleFound::Found(rule) = rule_for(rules, first, many, constructor) else {
+    let RuleFound::Found(r) = rule_for(rules, first, many, constructor) else {
         return Answer::Final(m);
     };
-    if sp.count < rule.fields {
+    if sp.count < r.fields {
         return Answer::Final(m);
     }
     if g.steps <= m.steps {
         return Answer::Refused(4);
     }
-    let value = rule.value;
-    let out = apply_rule(
-        library,
-        scratch,
-        g.nlib,
-        m.mark,
-        value,
-        t,
-        count,
-        before,
-        position + 1,
-        made,
-        sp.count,
-        rule.fields,
-    );
+    let after = position + 1;
+    let out = apply_rule(library, scratch, g, m, r, t, count, before, after, made, sp);
     fired(m, out)
 }

@@ -7,7 +7,7 @@ use Rattle.majors.proofs.apply_rule.Tie as tie
 
 -- the places that the needs speak of: the function's entry from its first call, and from the second call the first
 abbrev entry : (c : tie.After-apply) → tie.Start
-entry c = c .before .before .before .before
+entry c = c .before .before .before .before .before .before
 
 abbrev told-first : (c : tie.After-apply2) → tie.After-first
 told-first c = c .before .before .before
@@ -15,8 +15,11 @@ told-first c = c .before .before .before
 abbrev first-call : (c : tie.After-first) → tie.After-apply
 first-call c = c .before .before .before .before
 
+sub-from : tie.Need-sub-from
+sub-from c = search needs
+
 apply-requires : tie.Need-apply-requires
-apply-requires c κs = may-begin _ _ _ _ _ _ _ _ _ _ _ _ (c .before .before .before .pre)
+apply-requires c κs = may-begin _ _ _ _ _ _ _ _ _ _ _ _ (c .before .before .before .before .before .pre)
 
 enum-known-first : tie.Need-enum-known-first
 enum-known-first c = search needs
@@ -31,9 +34,6 @@ returns : tie.Need-returns
 returns c =
     let first = c .before .before .before .before in
     refused-first _ _ _ _ _ _ _ _ _ _ _ _ (entry first .pre) _ (c .enum-told .given .1) (first .apply .ensures)
-
-sub-from : tie.Need-sub-from
-sub-from c = search needs
 
 apply-requires-2 : tie.Need-apply-requires-2
 apply-requires-2 c κs =
@@ -81,12 +81,12 @@ pub apply-rule-spec : {M : Type 1} → statement M
 apply-rule-spec =
     tie.close
     (tie.spec
+    sub-from
     apply-requires
     enum-known-first
     enum-told
     same-length
     returns
-    sub-from
     apply-requires-2
     enum-known-second
     enum-told-2

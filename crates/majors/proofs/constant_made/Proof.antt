@@ -1,7 +1,7 @@
 -- `majors::constant_made` meets its contract: the head's row is looked at, and a constant with its arguments stands as it is.
 -- Assumes nothing.
 use borrow.Author.Needs.{needs}
-use mathlib.Core.Path.{_≡_, sym, ap, _∙_}
+use mathlib.Core.Path.{sym, ap, _∙_}
 use Rattle.rows.specs.Words.{shapeAt}
 use Rattle.rows.proofs.Lookup.{nine-read}
 use Rattle.majors.specs.Majors.{constantIn}

@@ -1,7 +1,7 @@
 -- `majors::constructor_of` meets its contract: a number by its rows, else a constant as it stands.
 -- Assumes nothing.
 use borrow.Author.Needs.{needs}
-use mathlib.Core.Path.{_≡_, sym, ap, _∙_}
+use mathlib.Core.Path.{sym, ap, _∙_}
 use Rattle.majors.specs.Majors.{numberIn}
 use Rattle.majors.proofs.Constructing.{number-is, constant-is}
 use Rattle.majors.proofs.constructor_of.Statement.{statement}

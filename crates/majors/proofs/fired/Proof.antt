@@ -1,7 +1,7 @@
 -- `majors::fired` meets its contract: one step more on a term, the number handed up on a refusal.
 -- Assumes nothing.
 use borrow.Author.Needs.{needs}
-use mathlib.Core.Path.{_≡_, sym, ap}
+use mathlib.Core.Path.{sym, ap}
 use Rattle.majors.specs.Majors.{answered}
 use Rattle.majors.proofs.fired.Statement.{statement}
 use Rattle.majors.proofs.fired.Tie as tie

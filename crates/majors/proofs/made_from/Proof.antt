@@ -1,7 +1,7 @@
 -- `majors::made_from` meets its contract: the pointer with its constant, or the number handed up on a refusal.
 -- Assumes nothing.
 use borrow.Author.Needs.{needs}
-use mathlib.Core.Path.{_≡_, sym, ap}
+use mathlib.Core.Path.{sym, ap}
 use Rattle.majors.specs.Majors.{madeFrom}
 use Rattle.majors.proofs.made_from.Statement.{statement}
 use Rattle.majors.proofs.made_from.Tie as tie

@@ -1,6 +1,6 @@
 -- `majors::number_at` meets its contract: a row of kind 8 is a number with no arguments, and any other row is none.
 -- Assumes nothing.
-use mathlib.Core.Path.{_≡_, ap, _∙_}
+use mathlib.Core.Path.{ap, _∙_}
 use Rattle.rows.specs.Words.{shapeAt}
 use Rattle.rows.proofs.Lookup.{nine-read}
 use Rattle.majors.proofs.HeadRows.{walk-stands, is-number, is-no-number}

@@ -3,8 +3,8 @@
 use borrow.Author.Needs.{needs}
 use native.Mathlib.Omega.{arith}
 use Prim.Native.Nat.{_-_}
-use mathlib.Core.Path.{_≡_, refl, sym, ap, _∙_}
-use Rattle.arith.specs.Meaning.{valueOf, wordsOf}
+use mathlib.Core.Path.{refl, sym, ap, _∙_}
+use Rattle.arith.specs.Meaning.{valueOf}
 use Rattle.arith.proofs.Determined.{value-of-words}
 use Rattle.majors.proofs.Constructing.{zero-nothing, zero-made, succ-nothing, succ-made-by}
 use Rattle.majors.proofs.number_made.Statement.{statement}

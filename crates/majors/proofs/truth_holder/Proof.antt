@@ -1,7 +1,6 @@
 -- `majors::truth_holder` meets its contract: the entry at the code of the truth value's role.
 -- Assumes nothing.
 use borrow.Author.Needs.{needs}
-use mathlib.Core.Path.{_≡_, refl}
 use Rattle.majors.proofs.truth_holder.Statement.{statement}
 use Rattle.majors.proofs.truth_holder.Tie as tie
 

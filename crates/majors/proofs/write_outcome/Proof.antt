@@ -2,9 +2,8 @@
 -- Assumes nothing.
 use borrow.Author.Needs.{needs}
 use native.Mathlib.Omega.{arith}
-use mathlib.Core.Path.{_≡_, refl, ap, subst}
+use mathlib.Core.Path.{ap}
 use Rattle.arith.specs.Meaning.{meaning}
-use Rattle.majors.specs.Majors.{OutcomeLeft, answered}
 use Rattle.majors.proofs.Outcomes.{out-of-steps, over-two-words, number-left, truth-left}
 use Rattle.majors.proofs.write_outcome.Statement.{statement}
 use Rattle.majors.proofs.write_outcome.Tie as tie

@@ -1,11 +1,6 @@
 -- `majors::write_succ` meets its contract: three rows in turn, and the first refusal ends it.
 -- Assumes nothing.
 use borrow.Author.Needs.{needs}
-use mathlib.Core.Path.{_≡_, sym, _∙_}
-use lib.ListN.{length}
-use Rattle.rows.specs.declared.Out.the-variants.{Done}
-use Rattle.rows.specs.Words.{storeOf}
-use Rattle.rows.specs.Writes.{Wrote}
 use Rattle.rows.proofs.InTurn.{done-held}
 use Rattle.majors.specs.Majors.{succIn}
 use Rattle.majors.proofs.Turns.{then-refused, then-done, two-below}
