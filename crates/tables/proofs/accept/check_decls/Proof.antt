@@ -4,6 +4,7 @@ use borrow.Author.Needs.{needs}
 use Prim.Native.Nat.{ℕ, _≤_, _<_, _+_, _*_, _-_}
 use native.Mathlib.Omega.{arith}
 use mathlib.Core.Path.{refl}
+use mathlib.Core.List.{List}
 use borrow.Author.Count.{below-none, below-more}
 use borrow.Author.Tests.{not-true}
 use lib.ListN.{getD}
@@ -21,14 +22,23 @@ Inv-loop library scratch declarations rules nlib count seen₀ j₀ seen j =
 abbrev μ-loop : tie.MeasureT-loop
 μ-loop library scratch declarations rules nlib count seen₀ j₀ seen j = count - j
 
+-- THE PLACES: the turn of the loop that a role's test ends, and its first test, which passed
+
+abbrev tested : tie.After-role-ok Inv-loop μ-loop → tie.Else1 Inv-loop μ-loop
+tested c = c .before .before
+
+abbrev turn : tie.After-role-ok Inv-loop μ-loop → tie.In-loop Inv-loop μ-loop
+turn c = tested c .before .before
+
+abbrev declared : tie.In-loop Inv-loop μ-loop → List ℕ
+declared c = c .before .before .before .before .before .before .args .declarations .now
+
 -- past the second test the role is right
 role-known : (c : tie.Else2 Inv-loop μ-loop) →
-    let loop = c .before .before .before .before .before .before in
-    let words = loop .before .before .before .before .before .args .declarations .now in
-    RoleRight words (loop .loop .j) (getD words (16 * loop .loop .j + 7) 0)
+    let t = turn (c .before) in
+    RoleRight (declared t) (t .before .loop .j) (getD (declared t) (16 * t .before .loop .j + 7) 0)
 role-known c =
-    let loop = c .before .before .before .before .before .before in
-    part-holds (role-says _ _ _ _ (loop .loop .inv .1) (c .before .role-ok .ensures)) (c .if2 .left)
+    part-holds (role-says _ _ _ _ (turn (c .before) .before .loop .inv .1) (c .before .role-ok .ensures)) (c .if2 .left)
 
 loop-holds : tie.Need-loop-holds Inv-loop μ-loop
 loop-holds c = (search needs, seen-none _, below-none _)
@@ -58,7 +68,9 @@ role-ok-requires : tie.Need-role-ok-requires Inv-loop μ-loop
 role-ok-requires c κs = search needs
 
 returns-2 : tie.Need-returns-2 Inv-loop μ-loop
-returns-2 c = fails-at (c .before .before .before .before .before .loop-test .taken) (c .before .before .before .before .before .before .loop .inv .2) (λ k. role-says _ _ _ _ (c .before .before .before .before .before .before .loop .inv .1) (c .before .role-ok .ensures) .no (not-true _ (c .if2 .taken)) (k .role))
+returns-2 c =
+    let t = turn (c .before) in
+    fails-at (t .loop-test .taken) (t .before .loop .inv .2) (λ k. role-says _ _ _ _ (t .before .loop .inv .1) (c .before .role-ok .ensures) .no (not-true _ (c .if2 .taken)) (k .role))
 
 cast-seen : tie.Need-cast-seen Inv-loop μ-loop
 cast-seen c = omega (arith, role-known c .code)
@@ -67,7 +79,7 @@ mul-seen : tie.Need-mul-seen Inv-loop μ-loop
 mul-seen c = omega (arith, role-known c .code)
 
 array-write-seen : tie.Need-array-write-seen Inv-loop μ-loop
-array-write-seen c = omega (arith, role-known c .code, c .before .before .before .before .before .before .loop .inv .1 .many)
+array-write-seen c = omega (arith, role-known c .code, turn (c .before) .before .loop .inv .1 .many)
 
 add-j : tie.Need-add-j Inv-loop μ-loop
 add-j c = search needs
@@ -78,8 +90,9 @@ loop-less c = search needs
 loop-again : tie.Need-loop-again Inv-loop μ-loop
 loop-again c =
     let role = role-known c in
-    let loop = c .before .before .before .before .before .before .loop in
-    (search needs, seen-more _ _ _ _ (loop .inv .1) (role .code) refl, below-more _ _ (loop .inv .2) (record { words = part-holds (c .before .before .before .before .decl-ok .ensures) (c .before .before .before .if1 .left); role = role }))
+    let first = tested (c .before) in
+    let loop = turn (c .before) .before .loop in
+    (search needs, seen-more _ _ _ _ (loop .inv .1) (role .code) refl, below-more _ _ (loop .inv .2) (record { words = part-holds (first .before .decl-ok .ensures) (first .if1 .left); role = role }))
 
 returns-3 : tie.Need-returns-3 Inv-loop μ-loop
 returns-3 c = all-hold (λ k h. c .before .loop .inv .2 k (omega arith))

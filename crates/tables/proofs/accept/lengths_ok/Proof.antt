@@ -7,6 +7,9 @@ use Rattle.rows.proofs.Answers.{says-no, says-same, says-at-most}
 use Rattle.tables.proofs.accept.lengths_ok.Statement.{statement}
 use Rattle.tables.proofs.accept.lengths_ok.Tie as tie
 
+abbrev given : tie.Else9 → tie.Start
+given c = c .before .before .before .before .before .before .before .before .before
+
 returns : tie.Need-returns
 returns c = says-no (λ h. c .if1 .taken (h .whole-library))
 
@@ -35,7 +38,20 @@ returns-9 : tie.Need-returns-9
 returns-9 c = says-no (λ h. let few = h .context in omega arith)
 
 returns-10 : tie.Need-returns-10
-returns-10 c = says-same (λ few. record { whole-library = omega arith; whole-declarations = omega arith; whole-rules = omega arith; whole-context = omega arith; whole-scratch = omega arith; library = omega arith; scratch = omega arith; declarations = omega arith; context = omega arith; rules = few }) (λ h. h .rules) (says-at-most (length (c .before .before .before .before .before .before .before .before .before .args .rules .now)) 1048576)
+returns-10 c =
+    says-same (λ few. record {
+      whole-library = omega arith;
+      whole-declarations = omega arith;
+      whole-rules = omega arith;
+      whole-context = omega arith;
+      whole-scratch = omega arith;
+      library = omega arith;
+      scratch = omega arith;
+      declarations = omega arith;
+      context = omega arith;
+      rules = few;
+    })
+    (λ h. h .rules) (says-at-most (length (given c .args .rules .now)) 1048576)
 
 pub lengths-ok-spec : {M : Type 1} → statement M
 lengths-ok-spec =

@@ -8,6 +8,9 @@ use Rattle.tables.proofs.Accepting.{lengths-of, sizes-by}
 use Rattle.tables.proofs.accept.sizes_ok.Statement.{statement}
 use Rattle.tables.proofs.accept.sizes_ok.Tie as tie
 
+abbrev given : tie.Else1 → tie.Start
+given c = c .before .before .before .before .before .before .before
+
 lengths-ok-requires : tie.Need-lengths-ok-requires
 lengths-ok-requires c κs = search needs
 
@@ -30,7 +33,11 @@ returns-4 : tie.Need-returns-4
 returns-4 c = says-no (λ s. let few = s .steps in omega arith)
 
 returns-5 : tie.Need-returns-5
-returns-5 c = says-same (sizes-by (part-holds (c .before .before .before .before .lengths-ok .ensures) (c .before .before .before .if1 .left)) (c .before .before .if2 .left) (c .before .if3 .left) (search needs)) (λ s. s .nesting) (says-at-most (c .before .before .before .before .before .before .before .before .before .before .args .nesting) 500)
+returns-5 c =
+    let depth = c .before in
+    let mark = depth .before in
+    let lists = mark .before in
+    says-same (sizes-by (part-holds (lists .before .lengths-ok .ensures) (lists .if1 .left)) (mark .if2 .left) (depth .if3 .left) (search needs)) (λ s. s .nesting) (says-at-most (given lists .args .nesting) 500)
 
 pub sizes-ok-spec : {M : Type 1} → statement M
 sizes-ok-spec =

@@ -5,6 +5,17 @@ use Rattle.tables.proofs.ClauseTests.{entry-type, entry-value}
 use Rattle.tables.proofs.clauses.entry_ok.Statement.{statement}
 use Rattle.tables.proofs.clauses.entry_ok.Tie as tie
 
+-- THE PLACES: the words are read, the type is in scope
+
+abbrev given : tie.After-words-at → tie.Start
+given c = c .before .before .before .before
+
+abbrev words : tie.After-scoped → tie.After-words-at
+words c = c .before .before .before
+
+abbrev typed : tie.After-value-ok → tie.Else1
+typed c = c .before .before .before .before
+
 mul-words-at : tie.Need-mul-words-at
 mul-words-at c = search needs
 
@@ -18,10 +29,10 @@ shared-slice-read-t14 : tie.Need-shared-slice-read-t14
 shared-slice-read-t14 c = search needs
 
 scoped-requires : tie.Need-scoped-requires
-scoped-requires c κs = c .before .before .before .before .before .before .pre .0
+scoped-requires c κs = given (c .before .before) .pre .0
 
 returns : tie.Need-returns
-returns c = entry-type _ _ _ _ _ (c .before .before .before .before .words-at .ensures .words) (c .before .scoped .ensures) (c .if1 .taken)
+returns c = entry-type _ _ _ _ _ (words (c .before) .words-at .ensures .words) (c .before .scoped .ensures) (c .if1 .taken)
 
 shared-slice-read-value-ok-2 : tie.Need-shared-slice-read-value-ok-2
 shared-slice-read-value-ok-2 c = search needs
@@ -33,10 +44,12 @@ shared-slice-read-value-ok-3 : tie.Need-shared-slice-read-value-ok-3
 shared-slice-read-value-ok-3 c = search needs
 
 value-ok-requires : tie.Need-value-ok-requires
-value-ok-requires c κs = c .before .before .before .before .before .before .before .before .before .before .before .pre .0
+value-ok-requires c κs = given (words (c .before .before .before .before)) .pre .0
 
 returns-2 : tie.Need-returns-2
-returns-2 c = entry-value _ _ _ _ _ (c .before .before .before .before .before .before .before .before .words-at .ensures .words) (c .before .before .before .before .before .scoped .ensures) (c .before .before .before .before .if1 .left) (c .value-ok .ensures)
+returns-2 c =
+    let type = typed c in
+    entry-value _ _ _ _ _ (words (type .before) .words-at .ensures .words) (type .before .scoped .ensures) (type .if1 .left) (c .value-ok .ensures)
 
 pub entry-ok-spec : {M : Type 1} → statement M
 entry-ok-spec =

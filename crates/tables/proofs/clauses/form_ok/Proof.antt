@@ -5,6 +5,9 @@ use Rattle.tables.proofs.FormTests.{plain-says, constructor-says, recur
 use Rattle.tables.proofs.clauses.form_ok.Statement.{statement}
 use Rattle.tables.proofs.clauses.form_ok.Tie as tie
 
+abbrev given : tie.Else1 → tie.Start
+given c = c .before .before .before .before .before .before .before
+
 shared-slice-read-kind : tie.Need-shared-slice-read-kind
 shared-slice-read-kind c = search needs
 
@@ -21,7 +24,7 @@ returns-2 : tie.Need-returns-2
 returns-2 c = constructor-says _ _ _ _ _ _ (c .before .if2 .taken) (c .idle-from2 .ensures)
 
 recursor-ok-requires : tie.Need-recursor-ok-requires
-recursor-ok-requires c κs = (c .before .before .before .before .before .before .before .before .before .pre .0, c .before .before .before .before .before .before .before .before .before .pre .1)
+recursor-ok-requires c κs = let start = given (c .before .before) in (start .pre .0, start .pre .1)
 
 returns-3 : tie.Need-returns-3
 returns-3 c = recursor-says _ _ _ _ _ _ (c .before .if3 .taken) (c .recursor-ok .ensures)

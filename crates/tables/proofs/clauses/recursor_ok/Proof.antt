@@ -7,6 +7,20 @@ use Rattle.tables.proofs.FormTests.{too-many, outside, its-rules}
 use Rattle.tables.proofs.clauses.recursor_ok.Statement.{statement}
 use Rattle.tables.proofs.clauses.recursor_ok.Tie as tie
 
+-- THE PLACES: no K flag, no last word, the first rule's number, the count
+
+abbrev given : tie.Else1 → tie.Start
+given c = c .before .before .before .before .before .before .before
+
+abbrev no-k : tie.Else2 → tie.Else1
+no-k c = c .before .before
+
+abbrev no-last : tie.After-wide → tie.Else2
+no-last c = c .before .before
+
+abbrev first : tie.After-wide2 → tie.After-wide
+first c = c .before .before
+
 shared-slice-read-if1 : tie.Need-shared-slice-read-if1
 shared-slice-read-if1 c = search needs
 
@@ -32,22 +46,25 @@ wide-requires-2 : tie.Need-wide-requires-2
 wide-requires-2 c κs = search needs
 
 returns-3 : tie.Need-returns-3
-returns-3 c = too-many _ _ _ _ _ _ _ (c .before .before .before .wide .ensures .0) (c .before .wide2 .ensures .0) (c .if3 .taken)
+returns-3 c = let count = c .before in too-many _ _ _ _ _ _ _ (first count .wide .ensures .0) (count .wide2 .ensures .0) (c .if3 .taken)
 
 add-if4 : tie.Need-add-if4
-add-if4 c = omega (arith, c .before .before .before .wide .ensures .1, c .before .wide2 .ensures .1)
+add-if4 c = let count = c .before in omega (arith, first count .wide .ensures .1, count .wide2 .ensures .1)
 
 mul-if4 : tie.Need-mul-if4
-mul-if4 c = omega (arith, c .before .before .before .wide .ensures .1, c .before .wide2 .ensures .1)
+mul-if4 c = let count = c .before in omega (arith, first count .wide .ensures .1, count .wide2 .ensures .1)
 
 returns-4 : tie.Need-returns-4
-returns-4 c = outside _ _ _ _ _ _ _ (c .before .before .before .before .wide .ensures .0) (c .before .before .wide2 .ensures .0) (c .if4 .taken)
+returns-4 c = let count = c .before .before in outside _ _ _ _ _ _ _ (first count .wide .ensures .0) (count .wide2 .ensures .0) (c .if4 .taken)
 
 rules-ok-requires : tie.Need-rules-ok-requires
-rules-ok-requires c κs = (c .before .before .before .before .before .before .before .before .before .before .before .before .before .before .before .pre .0, search needs)
+rules-ok-requires c κs = let count = c .before .before in (given (no-k (no-last (first count))) .pre .0, search needs)
 
 returns-5 : tie.Need-returns-5
-returns-5 c = its-rules _ _ _ _ _ _ _ (c .before .before .before .before .before .wide .ensures .0) (c .before .before .before .wide2 .ensures .0) (c .before .before .before .before .before .before .before .before .before .if1 .left) (c .before .before .before .before .before .before .before .if2 .left) (search needs) (c .before .if4 .left) (c .rules-ok .ensures)
+returns-5 c =
+    let count = c .before .before .before in
+    let last = no-last (first count) in
+    its-rules _ _ _ _ _ _ _ (first count .wide .ensures .0) (count .wide2 .ensures .0) (no-k last .if1 .left) (last .if2 .left) (search needs) (c .before .if4 .left) (c .rules-ok .ensures)
 
 pub recursor-ok-spec : {M : Type 1} → statement M
 recursor-ok-spec =
