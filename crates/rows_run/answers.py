@@ -62,7 +62,9 @@ def check(rows):
 
 def made(scratch, mark, kind, words):
     bound, height = sizes(LIBRARY + scratch, kind, words)
-    if bound > 4096 or height > 2000:
+    if kind == 1 and words[0] > 255:
+        said = "refused 10"
+    elif bound > 4096 or height > 2000:
         said = "refused 8"
     elif mark == len(scratch):
         said = "refused 5"
@@ -87,7 +89,7 @@ for mark in [4, 6]:
                         (6, NONE + OPEN + OVER), (6, OVER + NONE + NONE), (6, NONE + FAR + OPEN)]:
         print("make", kind, mark, *pairs, "=", made(copy(SCRATCH), mark, kind, pairs + [0] * (6 - len(pairs))))
 for mark in [5, 6]:
-    for name, kind, words in [("variable", 0, [4095]), ("variable", 0, [4096]), ("sort", 1, [255]), ("constant", 2, [1, 3]), ("number", 8, [2**32 - 1, 7])]:
+    for name, kind, words in [("variable", 0, [4095]), ("variable", 0, [4096]), ("sort", 1, [255]), ("sort", 1, [256]), ("constant", 2, [1, 3]), ("number", 8, [2**32 - 1, 7])]:
         print(name, *words, "=", made(copy(SCRATCH), mark, kind, words + [0] * (6 - len(words))))
 for row, shift, k in [(0, 0, 5), (0, 3, 5), (4, 0, 5), (4, 3, 65536), (7, 2**32 - 1, 0), (11, 1, 1)]:
     rows = LIBRARY + SCRATCH

@@ -3,13 +3,19 @@
 use Prim.Native.Nat.{ℕ, _≤_, _<_}
 use native.Mathlib.Omega.{arith}
 use mathlib.Core.Path.{_≡_, refl, ap, _∙_}
+use mathlib.Core.List.{List}
+use borrow.Author.Tests.{lt-ltb, le-ltb}
+use Rattle.rules.specs.Maxima.{most-level}
 use Rattle.rules.specs.Kinds.{plain, Tags, tags, table, sort, const, app, lam, pi, let′, proj, num}
-use Rattle.rules.specs.Rows.{blank, var, node, leaf}
+use Rattle.rules.specs.Rows.{Store, blank, var, node, leaf}
 use Rattle.rules.specs.Arithmetic.{wordsValue}
+use Rattle.course.specs.Charged.{putIn}
 use Rattle.rows.specs.declared.Ptr.{Ptr}
+use Rattle.rows.specs.declared.Out.{Out}
+use Rattle.rows.specs.declared.Out.the-variants.{Refused}
 use Rattle.rows.specs.Words.{ptrOf, kindOf, tagsAt, tagAt, rowBy, rowOf, leafShape}
 use Rattle.rows.specs.Checks.{used, Tidy, Formed}
-use Rattle.rows.specs.Writes.{Due}
+use Rattle.rows.specs.Writes.{sortIn, Wrote, Due}
 use Rattle.rows.proofs.NineKinds.{each-kind}
 use Rattle.rows.proofs.Formed.{pair, shape, one-word, two-words, two-pairs, three-pairs}
 
@@ -175,3 +181,16 @@ module _ (n k : ℕ) (a b c a′ b′ c′ : Ptr) (formed : Formed (shape k a b 
   pub due-again : ((tagAt k 0 ≡ plain → ⊥) → a′ .row < n) → ((tagAt k 1 ≡ plain → ⊥) → b′ .row < n) → ((tagAt k 2 ≡ plain → ⊥) → c′ .row < n) →
       Due n (shape k a′ b′ c′)
   due-again f g h = record { kind = formed .kind; tidy = tidy-again; first = f; second = g; third = h }
+
+-- A SORT'S LEVEL: 10 before anything else
+pub level-refused : (l sc : List ℕ) (m most : ℕ) (s : Store) (level : ℕ) → most-level < level → Wrote l sc m (Refused 10) sc (sortIn most s level)
+level-refused l sc m most s level h = record {
+  says = simp (lt-ltb _ _ h);
+  kept = refl;
+  same-length = refl;
+  grown = λ p m′ e. absurd (let z : _≡_ {A = ℕ} 0 1 = cc in omega arith);
+}
+
+pub level-kept : (l sc : List ℕ) (m most : ℕ) (s : Store) (level : ℕ) {r : Out} {sc′ : List ℕ} → level ≤ most-level → Wrote l sc m r sc′ (putIn most s (leaf (sort level))) →
+    Wrote l sc m r sc′ (sortIn most s level)
+level-kept l sc m most s level h w = record { says = w .says ∙ simp (le-ltb _ _ h); kept = w .kept; same-length = w .same-length; grown = w .grown }

@@ -2,23 +2,30 @@
 use Prim.Native.Nat.{ℕ, _+_, _*_, _≤_, _<_}
 use mathlib.Core.Path.{_≡_}
 use mathlib.Core.List.{List, _++_}
+use lib.Dec.{ltb}
 use lib.ListN.{length, take, drop}
-use Rattle.rules.specs.Kinds.{plain}
-use Rattle.rules.specs.Rows.{got}
+use Rattle.rules.specs.Maxima.{most-level}
+use Rattle.rules.specs.Kinds.{sort, plain}
+use Rattle.rules.specs.Rows.{Store, leaf, got}
 use Rattle.rules.specs.Accepted.{IsRow, part}
 use Rattle.course.specs.Charged as course
+use Rattle.course.specs.Charged.{putIn}
 use Rattle.rows.specs.declared.Ptr.{Ptr}
 use Rattle.rows.specs.declared.Shape.{Shape}
 use Rattle.rows.specs.declared.Out.{Out}
 use Rattle.rows.specs.declared.Out.the-variants.{Done, Refused}
 use Rattle.rows.specs.declared.kinds.Sizes.{Sizes}
-use Rattle.rows.specs.Words.{ptrOf, tagAt, decode, wordsOf, wordsAt, storeOf}
+use Rattle.rows.specs.Words.{ite, ptrOf, tagAt, decode, wordsOf, wordsAt, storeOf}
 use Rattle.rows.specs.Checks.{Tidy, Within}
 
 -- an answer, with the words that were left, as the course's
 abbrev pub outOf : Out → List ℕ → List ℕ → course.Out
 outOf (Done p m) l sc = course.wrote (got (storeOf l sc m) (ptrOf p))
 outOf (Refused k) l sc = course.refused k
+
+-- "A row with level over 255 gives 10 before 8"
+abbrev pub sortIn : ℕ → Store → ℕ → course.Out
+sortIn most s level = ite (ltb most-level level) (course.refused 10) (putIn most s (leaf (sort level)))
 
 -- every used row is nine words as the rules have them
 pub record AreRows (l sc : List ℕ) (m nlib : ℕ) : Type 0 where

@@ -1,4 +1,4 @@
-// The row writer: a row is due, and is written at the mark, or refused with 8 or 5, in that order.
+// The row writer: a row is due, and is written at the mark, or refused with 8 or 5, in that order; a sort's level is asked before, 10.
 use super::Out;
 use super::Ptr;
 use super::Shape;
@@ -9,12 +9,12 @@ ghost use mathlib.Core.Path.{_≡_};
 ghost use mathlib.Core.List.{_++_};
 ghost use Prim.Native.Nat.{_+_, _*_, _/_, _<_, _≤_};
 ghost use lib.ListN.{length, drop};
-ghost use Rattle.rules.specs.Kinds.{sort, const, num};
+ghost use Rattle.rules.specs.Kinds.{const, num};
 ghost use Rattle.rules.specs.Rows.{var, leaf};
 ghost use Rattle.rules.specs.Arithmetic.{wordsValue};
 ghost use Rattle.course.specs.Charged.{putIn};
 ghost use Rattle.rows.specs.Words.{rowOf, leafShape, wordsOf, storeOf, Held};
-ghost use Rattle.rows.specs.Writes.{Wrote, Due, Pushed};
+ghost use Rattle.rows.specs.Writes.{sortIn, Wrote, Due, Pushed};
 
 // The nine words at the front of a part.
 fn fill(part: &mut [u32], w: Shape, bound: u32, height: u32)
@@ -106,10 +106,14 @@ pub fn make_var(library: &[u32], scratch: &mut [u32], nlib: u32, mark: u32, inde
     )
 }
 
+// "A row with level over 255 gives 10 before 8."
 pub fn make_sort(library: &[u32], scratch: &mut [u32], nlib: u32, mark: u32, level: u32) -> Out
     requires { ⌜ Held (now library) (now scratch) mark nlib ⌝ }
-    ensures { λ r. ⌜ Wrote (now (library .entry)) (now (scratch .entry)) mark r (now (scratch .exit)) (putIn (nlib + length (now (scratch .entry)) / 9) (storeOf (now (library .entry)) (now (scratch .entry)) mark) (leaf (sort level))) ⌝ }
+    ensures { λ r. ⌜ Wrote (now (library .entry)) (now (scratch .entry)) mark r (now (scratch .exit)) (sortIn (nlib + length (now (scratch .entry)) / 9) (storeOf (now (library .entry)) (now (scratch .entry)) mark) level) ⌝ }
 {
+    if 255 < level {
+        return Out::Refused(10);
+    }
     make_leaf(
         library,
         scratch,

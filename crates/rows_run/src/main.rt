@@ -358,6 +358,7 @@ fn leaf_cases(mark: u32) {
     make_var(mark, 4095);
     make_var(mark, 4096);
     make_sort(mark, 255);
+    make_sort(mark, 256);
     make_const(mark, 1, 3);
     make_number(mark, 4294967295, 7);
 }
