@@ -83,7 +83,7 @@ module _ {l ds rs cs sc : List ℕ} {g : Given} {m : Meter} {t : Ptr} {count : �
           Left l sc m (Final m₂) sc₂ (recursed l ds rs cs sc g m t n d levels)
       no-constructor {m₂} {sc₂} k =
           let here : Left l sc m (Final m₁) sc₁ (recursed l ds rs cs sc g m t n d levels) =
-              missed-after c n i r (rec-no-constructor e _ _ D levels xs parts (side-ended c n i r) (k .is)) in
+          missed-after c n i r (rec-no-constructor e _ _ D levels xs parts (side-ended c n i r) (k .is)) in
           subst (λ (w : List ℕ). Left l sc m (Final m₂) w (recursed l ds rs cs sc g m t n d levels)) (sym (k .words))
           (subst (λ (x : Meter). Left l sc m (Final x) sc₁ (recursed l ds rs cs sc g m t n d levels)) (sym (k .meter)) here)
 
