@@ -6,3 +6,5 @@ pub mod Constants
 pub mod Heads
 pub mod Computing
 pub mod Recursing
+pub mod Tests
+pub mod Unfolding
