@@ -8,3 +8,4 @@ pub mod Computing
 pub mod Recursing
 pub mod Tests
 pub mod Unfolding
+pub mod Binders
