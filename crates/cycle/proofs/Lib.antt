@@ -9,3 +9,5 @@ pub mod Recursing
 pub mod Tests
 pub mod Unfolding
 pub mod Binders
+pub mod Shifts
+pub mod Values
