@@ -11,3 +11,4 @@ pub mod Unfolding
 pub mod Binders
 pub mod Shifts
 pub mod Values
+pub mod Accepting

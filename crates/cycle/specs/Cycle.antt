@@ -4,12 +4,12 @@ use Prim.Native.Nat.{ℕ, _+_, _*_, _/_, _≤_, _<_}
 use mathlib.Core.Path.{_≡_}
 use mathlib.Core.List.{List}
 use mathlib.Core.Option.{Option, none, some}
-use lib.ListN.{length, getD, take}
+use lib.ListN.{length, take}
 use Rattle.rules.specs.Maxima.{most-bound, most-steps}
 use Rattle.rules.specs.Rows as rules
 use Rattle.rules.specs.Rows.{Store}
 use Rattle.rules.specs.RowCheck.{InScope}
-use Rattle.rules.specs.Accepted.{IsRow}
+use Rattle.rules.specs.Accepted.{IsRow, part}
 use Rattle.rules.specs.Declarations.{Env}
 use Rattle.course.specs.Tries.{Try}
 use Rattle.course.specs.Eval.{Res, ok, no, try, atHead, sideAt}
@@ -20,7 +20,7 @@ use Rattle.rows.specs.declared.Ptr.{Ptr}
 use Rattle.rows.specs.Words.{ptrOf, decode, wordsAt, storeOf, Held}
 use Rattle.rows.specs.Writes.{Grown}
 use Rattle.tables.specs.Env.{envOf}
-use Rattle.tables.specs.Read.{HoldersOf}
+use Rattle.tables.specs.Read.{declRead, HoldersOf}
 use Rattle.state.specs.declared.Given.{Given}
 use Rattle.state.specs.declared.Meter.{Meter}
 use Rattle.state.specs.declared.Reduced.{Reduced}
@@ -29,9 +29,11 @@ use Rattle.state.specs.State.{tallyOf, limitsIn}
 
 -- WHAT IS GIVEN
 
--- a recursor's rules and the context's records can be read, and the table of holders is that of the declarations
+-- a recursor's rules and the context's records can be read, roles have codes, and the table of holders is that of the declarations
 pub record Tabled (ds rs cs : List ℕ) (g : Given) : Type 0 where
-  pub rules : (d : ℕ) → d < length ds / 16 → getD ds (16 * d) 0 ≡ 2 → 4 * (getD ds (16 * d + 13) 0 + getD ds (16 * d + 14) 0) ≤ length rs
+  pub rules : (d : ℕ) → d < length ds / 16 → declRead (part 16 ds d) .kind ≡ 2 →
+      4 * (declRead (part 16 ds d) .«first_rule» + declRead (part 16 ds d) .rules) ≤ length rs
+  pub roles : (d : ℕ) → d < length ds / 16 → declRead (part 16 ds d) .role ≤ 15
   pub records : 5 * g .depth ≤ length cs
   pub holders : HoldersOf ds (g .holders)
 
