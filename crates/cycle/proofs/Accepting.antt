@@ -1,23 +1,13 @@
--- Accepted input is what the members of the cycle are given, at the start of a call.
+-- Accepted declarations, rules and context can be read by the members of the cycle.
 -- Assumes `Accepted` of the rules, and the table of holders that was read from the declarations.
-use Prim.Native.Nat.{ℕ, _+_, _*_, _/_, _≤_, _<_}
-use native.Mathlib.Omega.{arith}
-use mathlib.Core.Path.{_≡_, refl, sym, ap, _∙_, subst}
+use Prim.Native.Nat.{ℕ}
 use mathlib.Core.List.{List}
-use lib.ListN.{length}
-use Rattle.rules.specs.Rows as rules
-use Rattle.rules.specs.RowCheck.{InScope}
-use Rattle.rules.specs.Accepted.{Lent, Accepted, libraryRows}
-use Rattle.rules.specs.Declarations.{Env}
-use Rattle.safety.specs.Sane.{accepted-sane}
+use Rattle.rules.specs.Accepted.{Lent, Accepted}
 use Rattle.rows.specs.declared.Ptr.{Ptr}
-use Rattle.rows.specs.Words.{ptrOf, storeOf, Held}
-use Rattle.tables.specs.Env.{envOf}
 use Rattle.tables.specs.Read.{HoldersOf}
 use Rattle.tables.specs.Verdicts.{lentOf, envIn, storeIn}
 use Rattle.tables.proofs.Given.{context-there, rules-there, role-given}
 use Rattle.state.specs.declared.Given.{Given}
-use Rattle.state.specs.declared.Meter.{Meter}
 use Rattle.cycle.specs.Cycle.{Tabled}
 
 module _ (l ds rs cs sc : List ℕ) (mark : ℕ) (p : Ptr) (nesting : ℕ) (g : Given) where

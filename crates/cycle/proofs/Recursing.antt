@@ -1,6 +1,7 @@
 -- The ways out of a recursor: not tried; refused in the major's reduction; no constructor; its rows refused; no rule for it; the rule fires.
 -- Assumes what the member is given.
 use Prim.Native.Nat.{ℕ, _*_}
+use native.Mathlib.Omega.{arith}
 use mathlib.Core.Path.{_≡_, refl, sym, ap, _∙_, subst}
 use mathlib.Core.List.{List}
 use mathlib.Core.Option.{Option, none, some}
@@ -8,18 +9,18 @@ use lib.ListN.{length, take}
 use Rattle.rules.specs.Rows as rules
 use Rattle.rules.specs.Rows.{Store, grow}
 use Rattle.rules.specs.RowCheck.{InScope}
-use Rattle.rules.specs.Declarations.{Recursor, Decl, Env, declAt}
+use Rattle.rules.specs.Declarations.{Rule, Recursor, Decl, Env, nth, declAt}
 use Rattle.rules.specs.Firings.{Tally, tally, itself, Written}
 use Rattle.rules.specs.HeadTests.{Ruled, rec-parts, recParts, byRule}
 use Rattle.rules.specs.Refusals.{Limits}
 use Rattle.course.specs.Tries.{recursion}
 use Rattle.course.specs.Eval.{Ans, charge, try, sideAt}
-use Rattle.substitution.specs.Stores.{ext-then}
+use Rattle.substitution.specs.Stores.{Good, scope-good, Ext, ext-then}
 use Rattle.substitution.specs.Passing.{pass-worded}
 use Rattle.promises.specs.Stores.{ext-grow}
 use Rattle.promises.specs.SaysCharge.{ChargeSays, c-all, charge-says}
 use Rattle.safety.specs.Lists.{none-some}
-use Rattle.safety.specs.Sane.{depthOf, declCount, Sane, sane-later}
+use Rattle.safety.specs.Sane.{depthOf, declCount, Sane, sane-later, closed-in}
 use Rattle.safety.specs.Scope.{all-later, itself-in}
 use Rattle.safety.specs.Parts.{grow-pass, MadeIn, constructor-in, rec-in, RuledIn, by-rule-in}
 use Rattle.ways.specs.Steps.{Step, final, stepOf, fireIn}
@@ -37,10 +38,10 @@ use Rattle.state.specs.declared.Reduced.the-variants as reduced
 use Rattle.state.specs.State.{tallyOf, limitsIn, Left}
 use Rattle.majors.specs.Majors.{Agrees, majorOf, NotMade, RefusedMade, MadeAs}
 use Rattle.majors.proofs.ForCallers.{holders-agree}
-use Rattle.cycle.specs.Cycle.{Counted, Passed, Ran, stepBy, resBy}
+use Rattle.cycle.specs.Cycle.{Stand, Counted, Passed, Ran, stepBy, resBy}
 use Rattle.cycle.specs.Course.{parts-in, fires-in}
-use Rattle.cycle.proofs.Standing.{to-depth, stand-within, nothing-passed, ran-passed, limits-on, left-on, passed-on}
-use Rattle.cycle.proofs.WaysOut.{refused-left, final-left, left-as, q-asked, grown-store, major-arguments, side-ended, missed-after, through}
+use Rattle.cycle.proofs.Standing.{to-depth, stand-within, stand-on, counted-on, nothing-passed, ran-passed, limits-on, left-on, passed-on}
+use Rattle.cycle.proofs.WaysOut.{refused-left, final-left, left-as, q-asked, t-counted, grown-store, major-arguments, side-ended, missed-after, through}
 
 module _ (l ds rs cs sc : List ℕ) (g : Given) (m : Meter) (t : Ptr) (n d levels : ℕ) where
   -- the member's promise
@@ -152,3 +153,20 @@ module _ {l ds rs cs sc : List ℕ} {g : Given} {m : Meter} {t : Ptr} {count : �
             ∙ fires-in (limitsIn g sc) (tally (m₁ .steps) (grow s₁ (h .made .rows))) (itself (ρ .value)) (ρ .arguments) made-sane (itself-in (ruled-scope q .value))
             ∙ sym (ap (stepOf (limitsIn g sc)) (rec-fires e _ _ D levels xs parts (side-ended c n i r) (h .is) (charged-as (h .made .rows) (h .charged)) q)))
             (left-on through-both k)
+
+        -- what the rule's firing is given: t in the rows that are left, and rule values that stand
+        made-stand : Stand l ds rs cs sc₂ g m₂
+        made-stand =
+            let there = q-asked c n i r .stand in
+            stand-on there past (subst (Sane e) (sym (h .store)) made-sane) (omega (arith, h .steps, there .metered))
+
+        made-more : Ext s₁ (storeOf l sc₂ (m₂ .mark))
+        made-more = subst (Ext s₁) (sym (h .store)) (ext-grow s₁ (h .made .rows))
+
+        pub made-counted : Counted l ds rs cs sc₂ g m₂ t count
+        made-counted = counted-on (q-asked c n i r .stand) made-stand made-more (t-counted c n i r)
+
+        pub rule-values : (j : ℕ) (ρ : Rule) → nth (o .rules) j ≡ some ρ → Good (storeOf l sc₂ (m₂ .mark)) (ρ .value)
+        rule-values j ρ k =
+            let args = parts-in (c .asked .stand .sane) (to-depth (c .asked .stand) (c .asked .scope)) .arguments in
+            scope-good (closed-in (depthOf e) (made-stand .sane .rule d o j ρ (rec-in D levels args parts .form) k))
