@@ -53,7 +53,7 @@ module _ {l ds rs cs sc : List ℕ} {g : Given} {m : Meter} {t : Ptr} (a : Asked
   head-safe = let k = parts-in (a .stand .sane) (to-depth (a .stand) (a .scope)) in rules-safe (a .stand .sane) (k .head) (k .arguments)
 
   -- BY THE HEAD'S ROW
-  head-at : {w : Row} → rowAt s (h .row) ≡ w → headBy l ds rs cs sc g m n (ptrOf t) ≡ step (atRow e s (h .shift) xs w)
+  pub head-at : {w : Row} → rowAt s (h .row) ≡ w → headBy l ds rs cs sc g m n (ptrOf t) ≡ step (atRow e s (h .shift) xs w)
   head-at q =
       let f = pass-formed (a .stand .sane .pass) in
       ap (stepOf (limitsIn g sc)) (at-head e (limitsIn g sc) _ (tallyOf l sc m) (ptrOf t) (spine-is f (scope-good (a .scope)) (spine-of f (scope-good (a .scope)))) q)

@@ -12,3 +12,4 @@ pub mod Binders
 pub mod Shifts
 pub mod Values
 pub mod Accepting
+pub mod HeadShapes
