@@ -10,7 +10,8 @@ use Rattle.rules.specs.Rows.{Ptr, ptr, blank, Row, var, node, leaf, Store, up, 
 use Rattle.rules.specs.Declarations.{Env}
 use Rattle.rules.specs.Replacement.{count, Replaces, same, moved, inside, OnRow, stays, value, moves, children, OnField, word, child, under}
 use Rattle.rules.specs.Spines.{NoApp, no-var, no-sort, no-const, no-lam, no-pi, no-let, no-proj, no-num, Spine, head, through, joined}
-use Rattle.rules.specs.Firings.{Tally, tally, Result, opened, itself, a-number, a-constant, Gives, by-replacement, no-row, number-row, constant-row, Due, NumberFits, opened-fits, itself-fits, number-fits, constant-fits, Pays}
+use Rattle.rules.specs.Firings.{Tally, tally, Result, opened, itself, a-number, a-constant, Gives, by-replacement, no-row, number-row, constant-row}
+use Rattle.rules.specs.Firings.{Due, NumberFits, opened-fits, itself-fits, number-fits, constant-fits, Pays}
 use Rattle.rules.specs.Refusals.{Demand, step, fitting, row, level, Asks, its-step, its-number, its-row}
 use Rattle.substitution.specs.Stores.{Ext}
 use Rattle.course.specs.Tries.{Try, End, Comes}

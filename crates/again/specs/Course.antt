@@ -10,7 +10,8 @@ use Rattle.rules.specs.Declarations.{Env}
 use Rattle.rules.specs.Spines.{Spine}
 use Rattle.rules.specs.Firings.{Tally, tally, Result}
 use Rattle.rules.specs.Refusals.{Demand, Limits, Within, Fails, no-step, no-free-row, no-level, too-large, no-size}
-use Rattle.course.specs.Tries.{Try, fires, reduces, rules, End, missed, firing, Runs, final, then, Comes, misses, fires-now, wrote, side, RunMeets, trying, paying, later, TryMeets, writing, after-writing, too-deep, within, after-side}
+use Rattle.course.specs.Tries.{Try, fires, reduces, rules, End, missed, firing, Runs, final, then, Comes, misses, fires-now, wrote, side, RunMeets}
+use Rattle.course.specs.Tries.{trying, paying, later, TryMeets, writing, after-writing, too-deep, within, after-side}
 use Rattle.substitution.specs.Stores.{ext-length}
 use Rattle.promises.specs.Stores.{Later, later-runs, later-comes, later-run-meets}
 use Rattle.again.specs.Embeds.{ren, Embeds, as-many, fits-renamed, fits-back, written-carried, row-due-carried}

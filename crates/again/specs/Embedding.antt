@@ -8,7 +8,9 @@ use Rattle.rules.specs.Rows.{Ptr, ptr, Row, var, node, Store, rowAt, up, put}
 use Rattle.rules.specs.Firings.{Result, opened, itself}
 use Rattle.again.specs.Embeds.{ren, renRow, Embeds, row-at, up-at, put-embeds, end-renamed}
 use Rattle.again.specs.Carried.{renResult, app-renamed, num-renamed, const-renamed}
-use Rattle.again.specs.Alike.{Each, ended, next, NewRow, new-const, new-num, new-app, Likeness, ResultLike, opened-like, itself-like, number-like, constant-like, HeadLike, head-var, head-sort, head-const, head-app, head-lam, head-pi, head-let, head-proj, head-num}
+use Rattle.again.specs.Alike.{Each, ended, next, NewRow, new-const, new-num, new-app, Likeness, ResultLike, opened-like, itself-like}
+use Rattle.again.specs.Alike.{number-like, constant-like, HeadLike, head-var, head-sort, head-const, head-app, head-lam, head-pi, head-let}
+use Rattle.again.specs.Alike.{head-proj, head-num}
 
 module _ (ρ : ℕ → ℕ) where
   abbrev pub Renamed : Store → Store → Ptr → Ptr → Type 0

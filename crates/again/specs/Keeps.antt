@@ -15,13 +15,17 @@ use Rattle.rules.specs.Spines.{Spine}
 use Rattle.rules.specs.Firings.{Tally, Result, Due, Pays}
 use Rattle.course.specs.Tries.{Try, rules, End, missed, firing, Runs, final, then, Comes, misses, fires-now, wrote, side}
 use Rattle.promises.specs.Stores.{Later, later-refl, later-trans, later-writes, later-runs, later-comes}
-use Rattle.substitution.specs.Stores.{FieldsOk, node-fields, first-ok, second-ok, third-ok, term-child, body-child, Formed, Good, good-fields, ext-same, ext-good, put-formed, put-good, up-child}
+use Rattle.substitution.specs.Stores.{FieldsOk, node-fields, first-ok, second-ok, third-ok, term-child, body-child, Formed, Good, good-fields}
+use Rattle.substitution.specs.Stores.{ext-same, ext-good, put-formed, put-good, up-child}
 use Rattle.substitution.specs.Reading.{reads-exists}
 use Rattle.substitution.specs.Existence.{Kept}
 use Rattle.substitution.specs.Applied.{AllGood, no-more, and-good, all-good, none-left, spine-reads}
 use Rattle.substitution.specs.Dues.{opened-good, itself-good, number-good, constant-good, due-keeps}
 use Rattle.again.specs.Carried.{later-fired}
-use Rattle.again.specs.Alike.{Opt, nones, somes, Each, ended, next, NewRow, new-const, new-num, new-app, Likeness, rows-grown, ResultLike, opened-like, itself-like, number-like, constant-like, HeadLike, head-var, head-sort, head-const, head-app, head-lam, head-pi, head-let, head-proj, head-num, FormLike, plain-like, constructor-like, recursor-like, structure-like, EnvLike}
+use Rattle.again.specs.Alike.{Opt, nones, somes, Each, ended, next, NewRow, new-const, new-num, new-app, Likeness, rows-grown, ResultLike}
+use Rattle.again.specs.Alike.{opened-like, itself-like, number-like, constant-like, HeadLike, head-var, head-sort, head-const, head-app}
+use Rattle.again.specs.Alike.{head-lam, head-pi, head-let, head-proj, head-num, FormLike, plain-like, constructor-like, recursor-like}
+use Rattle.again.specs.Alike.{structure-like, EnvLike}
 use Rattle.again.specs.Twins.{Twin, no-rules, both-fire, both-write, both-reduce, rules-twin, head-row}
 
 -- THE ENVIRONMENT: the pointers that reduction reads stand in the store

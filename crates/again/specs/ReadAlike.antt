@@ -11,15 +11,18 @@ use Rattle.rules.specs.Rows.{Ptr, Row, node, Store, rowAt, up, put}
 use Rattle.rules.specs.Rows as R
 use Rattle.rules.specs.RowCheck.{plain-ok, term-ok}
 use Rattle.rules.specs.Declarations.{Env}
-use Rattle.rules.specs.ReadOut.{Tree, var, sort, const, app, lam, pi, let′, proj, num, shift, Reads, ReadsRow, reads-var, reads-sort, reads-const, reads-app, reads-lam, reads-pi, reads-let, reads-proj, reads-num}
+use Rattle.rules.specs.ReadOut.{Tree, var, sort, const, app, lam, pi, let′, proj, num, shift, Reads, ReadsRow, reads-var, reads-sort, reads-const}
+use Rattle.rules.specs.ReadOut.{reads-app, reads-lam, reads-pi, reads-let, reads-proj, reads-num}
 use Rattle.substitution.specs.Trees.{shift-high}
-use Rattle.substitution.specs.Stores.{FieldsOk, node-fields, first-ok, second-ok, third-ok, term-child, body-child, Formed, Good, good-fields, ext-good, up-child}
+use Rattle.substitution.specs.Stores.{FieldsOk, node-fields, first-ok, second-ok, third-ok, term-child, body-child, Formed, Good, good-fields}
+use Rattle.substitution.specs.Stores.{ext-good, up-child}
 use Rattle.substitution.specs.Reading.{reads-later, before-shift}
 use Rattle.substitution.specs.Bounds.{reads-up}
 use Rattle.substitution.specs.Replacing.{Replaced, put-reads}
 use Rattle.substitution.specs.Heads.{BodyReads}
 use Rattle.course.specs.Tries.{rules}
-use Rattle.again.specs.Alike.{Each, Grown, NewRow, new-const, new-num, new-app, Likeness, HeadLike, head-var, head-sort, head-const, head-app, head-lam, head-pi, head-let, head-proj, head-num, EnvLike}
+use Rattle.again.specs.Alike.{Each, Grown, NewRow, new-const, new-num, new-app, Likeness, HeadLike, head-var, head-sort, head-const, head-app}
+use Rattle.again.specs.Alike.{head-lam, head-pi, head-let, head-proj, head-num, EnvLike}
 use Rattle.again.specs.Twins.{Twin, rules-twin}
 
 pub record BothFormed (s s̃ : Store) : Type 0 where

@@ -7,10 +7,12 @@ use mathlib.Core.Option.{Option, none, some}
 use lib.ListN.{length, length-map}
 use lib.Dec.{eqb}
 use Rattle.rules.specs.Rows.{Ptr, Store}
-use Rattle.rules.specs.Declarations.{Role, roleCode, Rule, Recursor, Form, plain, constructor, recursor, structure, Decl, Entry, Env, nth, declAt, holderOn, holderFrom, holder, valueOn, valueOf}
+use Rattle.rules.specs.Declarations.{Role, roleCode, Rule, Recursor, Form, plain, constructor, recursor, structure, Decl, Entry, Env, nth, declAt}
+use Rattle.rules.specs.Declarations.{holderOn, holderFrom, holder, valueOn, valueOf}
 use Rattle.again.specs.Embeds.{ren}
 use Rattle.again.specs.Carried.{renValue}
-use Rattle.again.specs.Alike.{Opt, nones, somes, Each, ended, next, RuleLike, FormLike, plain-like, constructor-like, recursor-like, structure-like, DeclLike, EnvLike}
+use Rattle.again.specs.Alike.{Opt, nones, somes, Each, ended, next, RuleLike, FormLike, plain-like, constructor-like, recursor-like}
+use Rattle.again.specs.Alike.{structure-like, DeclLike, EnvLike}
 use Rattle.again.specs.Embedding.{embedding}
 
 module _ (ρ : ℕ → ℕ) where

@@ -11,9 +11,14 @@ use Rattle.rules.specs.Kinds.{Kind, sort, const, app, lam, pi, let′, proj, nu
 use Rattle.rules.specs.Rows.{Ptr, ptr, Row, var, node, Store, grow, put}
 use Rattle.rules.specs.Declarations.{Role, zero′, succ′, true′, false′, quot-mk, Rule, Recursor, Form, Decl, Env, nth, roleCode}
 use Rattle.rules.specs.Arithmetic.{Op, add, sub, mul, div, mod′, beq, ble, Computed, number, truth}
-use Rattle.rules.specs.HeadTests.{held, both, asConstant, asNumber, parametersOf, fieldAt, quotPosition, QuotParts, quotParts, thirdOfThree, quotMade, recursorOf, beforeIndices, majorPosition, RecParts, recParts, Made, numberMade, madeOn, asConstructor, ruleOn, ruleFor, lastOf, Ruled, byRule, operationOf, tried, Operands, exactlyTwo, operands, outcome, unfolds}
+use Rattle.rules.specs.HeadTests.{held, both, asConstant, asNumber, parametersOf, fieldAt, quotPosition, QuotParts, quotParts, thirdOfThree, quotMade}
+use Rattle.rules.specs.HeadTests.{recursorOf, beforeIndices, majorPosition, RecParts, recParts, Made, numberMade, madeOn, asConstructor, ruleOn}
+use Rattle.rules.specs.HeadTests.{ruleFor, lastOf, Ruled, byRule, operationOf, tried, Operands, exactlyTwo, operands, outcome, unfolds}
 use Rattle.substitution.specs.Stores.{put-length}
-use Rattle.again.specs.Alike.{Opt, nones, somes, Each, ended, next, nth-like, drop-like, take-like, append-like, length-like, given-like, provided-like, same-given, NewRow, new-const, new-num, new-app, Likeness, RowsLike, no-rows, row-then, put-grown, ResultLike, number-like, constant-like, RuleLike, RecursorLike, FormLike, plain-like, constructor-like, recursor-like, structure-like, DeclLike, EnvLike}
+use Rattle.again.specs.Alike.{Opt, nones, somes, Each, ended, next, nth-like, drop-like, take-like, append-like, length-like, given-like}
+use Rattle.again.specs.Alike.{provided-like, same-given, NewRow, new-const, new-num, new-app, Likeness, RowsLike, no-rows, row-then, put-grown}
+use Rattle.again.specs.Alike.{ResultLike, number-like, constant-like, RuleLike, RecursorLike, FormLike, plain-like, constructor-like}
+use Rattle.again.specs.Alike.{recursor-like, structure-like, DeclLike, EnvLike}
 
 -- ROWS: two variables, or the same kind with the same words
 

@@ -9,9 +9,13 @@ use Rattle.rules.specs.Declarations.{Decl, Env}
 use Rattle.rules.specs.Arithmetic.{Op, compute}
 use Rattle.rules.specs.Firings.{Result}
 use Rattle.rules.specs.HeadTests.{outcome}
-use Rattle.course.specs.Tries.{Try, no-rule, fires, writes, reduces, with-it, _or-else_, lambda, variable, projection, quot, recursion, arithmetic, delta, constant, atRow, rules}
-use Rattle.again.specs.Alike.{Opt, nones, somes, Each, ended, next, Grown, Likeness, grown-same, grown-then, pointers-later, RowsLike, rows-grown, ResultLike, opened-like, itself-like, HeadLike, head-var, head-sort, head-const, head-app, head-lam, head-pi, head-let, head-proj, head-num, recursor-later, DeclLike, decl-later, EnvLike, env-later}
-use Rattle.again.specs.Tests.{RowLike, vars, nodes, same-number, field-like, quot-parts-like, quot-made-like, rec-parts-like, made-like, by-rule-like, operands-like, outcome-like, unfolds-like}
+use Rattle.course.specs.Tries.{Try, no-rule, fires, writes, reduces, with-it, _or-else_, lambda, variable, projection, quot, recursion, arithmetic}
+use Rattle.course.specs.Tries.{delta, constant, atRow, rules}
+use Rattle.again.specs.Alike.{Opt, nones, somes, Each, ended, next, Grown, Likeness, grown-same, grown-then, pointers-later, RowsLike}
+use Rattle.again.specs.Alike.{rows-grown, ResultLike, opened-like, itself-like, HeadLike, head-var, head-sort, head-const, head-app, head-lam}
+use Rattle.again.specs.Alike.{head-pi, head-let, head-proj, head-num, recursor-later, DeclLike, decl-later, EnvLike, env-later}
+use Rattle.again.specs.Tests.{RowLike, vars, nodes, same-number, field-like, quot-parts-like, quot-made-like, rec-parts-like, made-like}
+use Rattle.again.specs.Tests.{by-rule-like, operands-like, outcome-like, unfolds-like}
 
 module _ (L : Likeness) where
   -- no rule on either side; results and arguments alike; rows alike, and twins after them; pointers alike, and whatever the side reductions end in, if

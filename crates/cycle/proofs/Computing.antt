@@ -29,7 +29,8 @@ use Rattle.state.specs.State.{tallyOf, limitsIn, Left}
 use Rattle.cycle.specs.Cycle.{Asked, Counted, Ran, stepBy, resBy}
 use Rattle.cycle.specs.Course.{ended}
 use Rattle.cycle.proofs.Standing.{to-depth, nothing-passed}
-use Rattle.cycle.proofs.WaysOut.{refused-left, final-left, headRow, q-asked, t-counted, grown-store, side-ended, missed-after, fired-after, through, second-says}
+use Rattle.cycle.proofs.WaysOut.{refused-left, final-left, headRow, q-asked, t-counted, grown-store, side-ended, missed-after, fired-after}
+use Rattle.cycle.proofs.WaysOut.{through, second-says}
 
 module _ (l ds rs cs sc : List ℕ) (g : Given) (m : Meter) (t : Ptr) (n d : ℕ) where
   -- the member's promise

@@ -32,7 +32,8 @@ use Rattle.state.specs.declared.Reduced.the-variants as reduced
 use Rattle.state.specs.State.{tallyOf, limitsIn, Left}
 use Rattle.cycle.specs.Cycle.{Counted, Ran, stepBy, resBy}
 use Rattle.cycle.proofs.Standing.{to-depth, nothing-passed}
-use Rattle.cycle.proofs.WaysOut.{refused-left, final-left, headRow, q-asked, grown-store, side-ended, same-arguments, major-arguments, missed-after, fired-after}
+use Rattle.cycle.proofs.WaysOut.{refused-left, final-left, headRow, q-asked, grown-store, side-ended, same-arguments, major-arguments}
+use Rattle.cycle.proofs.WaysOut.{missed-after, fired-after}
 
 -- THE POSITION of the major, by the role's code
 op-codes : (o : Op) → 9 ≤ roleCode (arith o)

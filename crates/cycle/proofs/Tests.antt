@@ -11,7 +11,8 @@ use lib.ListN.{length, getD}
 use borrow.Author.Tests.{eq-eqb, ne-eqb}
 use Rattle.rules.specs.Rows.{Ptr}
 use Rattle.rules.specs.Arithmetic.{Op, add, sub, mul, div, mod′, beq, ble}
-use Rattle.rules.specs.Declarations.{Role, no-role, nat, zero′, succ′, true′, false′, quot-mk, quot-lift, quot-ind, arith, opCode, roleCode, Recursor, Decl, Env, nth}
+use Rattle.rules.specs.Declarations.{Role, no-role, nat, zero′, succ′, true′, false′, quot-mk, quot-lift, quot-ind, arith, opCode, roleCode, Recursor}
+use Rattle.rules.specs.Declarations.{Decl, Env, nth}
 use Rattle.rules.specs.HeadTests.{given, provided, recursorOf, majorPosition, rec-parts, recParts, operationOf, tried, operands-of, exactlyTwo, operands}
 use Rattle.safety.specs.Lists.{nth-inside}
 
