@@ -7,7 +7,8 @@ use mathlib.Core.Option.{Option, none, some}
 use Rattle.rules.specs.Kinds.{sort, const, app, lam, pi, let′, proj, num}
 use Rattle.rules.specs.Rows.{Ptr, ptr, blank, Row, var, node, leaf, Store, grow}
 use Rattle.rules.specs.Arithmetic.{add, sub, mul, div, mod′, beq, ble}
-use Rattle.rules.specs.Declarations.{Role, no-role, zero′, succ′, true′, false′, quot-mk, quot-lift, quot-ind, arith, Rule, plain, constructor, recursor, structure, Decl, Entry}
+use Rattle.rules.specs.Declarations.{Role, no-role, zero′, succ′, true′, false′, quot-mk, quot-lift, quot-ind, arith, Rule, plain, constructor}
+use Rattle.rules.specs.Declarations.{recursor, structure, Decl, Entry}
 use Rattle.rules.specs.Call.{Answer, term, refused}
 use Rattle.rules.specs.ReadOut.{Tree}
 use Rattle.rules.specs.ReadOut as T

@@ -12,7 +12,8 @@ use Rattle.rules.specs.Spines.{joined}
 use Rattle.rules.specs.Firings.{Tally, tally, Result, opened, itself, a-number, a-constant}
 use Rattle.rules.specs.HeadTests.{given}
 use Rattle.rules.specs.Refusals.{Limits}
-use Rattle.course.specs.Views.{Cmp, at-most, over, cmp, AppView, is-app, no-app, appView, FitView, fits, no-fit, fitView, NumberView, in-range, too-big, numberView}
+use Rattle.course.specs.Views.{Cmp, at-most, over, cmp, AppView, is-app, no-app, appView, FitView, fits, no-fit, fitView, NumberView, in-range}
+use Rattle.course.specs.Views.{too-big, numberView}
 use Rattle.course.specs.Tries.{Try, no-rule, fires, writes, reduces, rules}
 
 -- REPLACEMENT

@@ -12,11 +12,15 @@ use Rattle.rules.specs.Firings.{Tally, tally, Result, Written}
 use Rattle.rules.specs.HeadTests.{asConstructor, byRule, asNumber, fieldAt, quotParts, quotMade, recParts, operands, outcome, unfolds}
 use Rattle.rules.specs.Arithmetic.{compute}
 use Rattle.rules.specs.HeadRules.{Head, Constant, Side, ends}
-use Rattle.rules.specs.Refusals.{Demand, row, RowDue, Meets, in-premise, in-firing, SideMeets, its-level, Premise, structure, quot-major, rec-major, number-row, first-number, second-number}
+use Rattle.rules.specs.Refusals.{Demand, row, RowDue, Meets, in-premise, in-firing, SideMeets, its-level, Premise, structure, quot-major, rec-major}
+use Rattle.rules.specs.Refusals.{number-row, first-number, second-number}
 use Rattle.rules.specs.Refusals as F
-use Rattle.course.specs.Tries.{Try, no-rule, fires, writes, reduces, with-it, _or-else_, lambda, variable, projection, quot, recursion, arithmetic, delta, constant, atRow, rules, End, missed, RunMeets, trying, paying, TryMeets, writing, after-writing, too-deep, after-side}
+use Rattle.course.specs.Tries.{Try, no-rule, fires, writes, reduces, with-it, _or-else_, lambda, variable, projection, quot, recursion}
+use Rattle.course.specs.Tries.{arithmetic, delta, constant, atRow, rules, End, missed, RunMeets, trying, paying, TryMeets, writing}
+use Rattle.course.specs.Tries.{after-writing, too-deep, after-side}
 use Rattle.course.specs.Tries as Y
-use Rattle.course.specs.FromTries.{Understood, u-misses, u-wrote, u-side, quot-end, rec-end, quot-missed, rec-missed, is-constant, app-no-head, fires-of, rules-end, from-comes, from-runs}
+use Rattle.course.specs.FromTries.{Understood, u-misses, u-wrote, u-side, quot-end, rec-end, quot-missed, rec-missed, is-constant, app-no-head}
+use Rattle.course.specs.FromTries.{fires-of, rules-end, from-comes, from-runs}
 
 module _ (e : Env) where
   -- a demand met while trying, with the rules' own side reductions

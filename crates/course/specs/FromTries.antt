@@ -13,10 +13,15 @@ use Rattle.rules.specs.Declarations.{Decl, Env, declAt, valueOf, holder, true�
 use Rattle.rules.specs.Arithmetic.{Op, add, sub, mul, div, mod′, beq, ble, Computed, number, truth, compute}
 use Rattle.rules.specs.Spines.{Spine, NoApp, head, through}
 use Rattle.rules.specs.Firings.{Tally, tally, Result, a-constant, Written}
-use Rattle.rules.specs.HeadTests.{given, provided, held, both, tried, Made, asConstructor, byRule, asNumber, fieldAt, quotParts, quotMade, recParts, operationOf, Operands, exactlyTwo, operands, outcome, unfolds}
-use Rattle.rules.specs.HeadRules.{Head, Constant, Constructs, a-sort, a-pi, a-num, a-lambda, Reduces, Side, ends, Fires, beta, zeta, field, by-quot, by-recursor, by-arithmetic, by-delta, Stuck, no-rule-for, no-value, no-field, none-fires, Quot, is-made, NoQuot, no-quot, not-made, Rec, by-rule, NoRec, no-recursor, no-constructor, Arith, computed, NoArith, no-operands, no-first, no-second}
+use Rattle.rules.specs.HeadTests.{given, provided, held, both, tried, Made, asConstructor, byRule, asNumber, fieldAt, quotParts, quotMade, recParts}
+use Rattle.rules.specs.HeadTests.{operationOf, Operands, exactlyTwo, operands, outcome, unfolds}
+use Rattle.rules.specs.HeadRules.{Head, Constant, Constructs, a-sort, a-pi, a-num, a-lambda, Reduces, Side, ends, Fires, beta, zeta, field, by-quot}
+use Rattle.rules.specs.HeadRules.{by-recursor, by-arithmetic, by-delta, Stuck, no-rule-for, no-value, no-field, none-fires, Quot, is-made, NoQuot}
+use Rattle.rules.specs.HeadRules.{no-quot, not-made, Rec, by-rule, NoRec, no-recursor, no-constructor, Arith, computed, NoArith, no-operands, no-first}
+use Rattle.rules.specs.HeadRules.{no-second}
 use Rattle.rules.specs.HeadRules as H
-use Rattle.course.specs.Tries.{Try, no-rule, fires, writes, reduces, with-it, _or-else_, lambda, variable, projection, quot, recursion, arithmetic, delta, constant, atRow, rules, End, missed, firing, Runs, Comes, misses, fires-now, wrote, side}
+use Rattle.course.specs.Tries.{Try, no-rule, fires, writes, reduces, with-it, _or-else_, lambda, variable, projection, quot, recursion}
+use Rattle.course.specs.Tries.{arithmetic, delta, constant, atRow, rules, End, missed, firing, Runs, Comes, misses, fires-now, wrote, side}
 use Rattle.course.specs.Tries as Y
 
 -- constructors that differ

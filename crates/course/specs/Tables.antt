@@ -8,7 +8,8 @@ use Rattle.rules.specs.Rows.{Ptr, ptr, blank, Row, node, Store, cell, cellAt, f
 use Rattle.rules.specs.Declarations.{Role, Form, plain, Decl, Entry, Env, nth, declAt, holderFrom, holder, valueOf}
 use Rattle.rules.specs.Spines.{joined}
 use Rattle.rules.specs.Arithmetic.{compute}
-use Rattle.rules.specs.HeadTests.{asConstant, asNumber, fieldAt, quotParts, quotMade, recParts, numberMade, asConstructor, ruleFor, byRule, operands, outcome, unfolds}
+use Rattle.rules.specs.HeadTests.{asConstant, asNumber, fieldAt, quotParts, quotMade, recParts, numberMade, asConstructor, ruleFor, byRule, operands}
+use Rattle.rules.specs.HeadTests.{outcome, unfolds}
 use Rattle.rules.specs.Call.{Answer, term, refused}
 use Rattle.rules.specs.ReadOut.{Tree}
 use Rattle.course.specs.Views.{cmp, appView, fitView, numberView}

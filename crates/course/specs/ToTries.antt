@@ -11,11 +11,17 @@ use Rattle.rules.specs.Declarations.{Decl, Env, declAt, valueOf}
 use Rattle.rules.specs.Spines.{Spine}
 use Rattle.rules.specs.Firings.{Tally, tally, Result, Written, Pays}
 use Rattle.rules.specs.HeadTests.{Made}
-use Rattle.rules.specs.HeadRules.{Head, Constant, Constructs, NoRuleFor, a-sort, a-pi, a-num, a-lambda, Reduces, Side, ends, Fires, beta, zeta, field, by-quot, by-recursor, by-arithmetic, by-delta, Stuck, no-rule-for, no-value, no-field, none-fires, Quot, is-made, NoQuot, no-quot, not-made, Rec, by-rule, NoRec, no-recursor, no-constructor, Arith, computed, NoArith, no-operands, no-first, no-second}
+use Rattle.rules.specs.HeadRules.{Head, Constant, Constructs, NoRuleFor, a-sort, a-pi, a-num, a-lambda, Reduces, Side, ends, Fires, beta, zeta, field}
+use Rattle.rules.specs.HeadRules.{by-quot, by-recursor, by-arithmetic, by-delta, Stuck, no-rule-for, no-value, no-field, none-fires, Quot, is-made}
+use Rattle.rules.specs.HeadRules.{NoQuot, no-quot, not-made, Rec, by-rule, NoRec, no-recursor, no-constructor, Arith, computed, NoArith, no-operands}
+use Rattle.rules.specs.HeadRules.{no-first, no-second}
 use Rattle.rules.specs.HeadRules as H
-use Rattle.rules.specs.Refusals.{Demand, row, level, RowDue, Asks, Meets, in-premise, in-firing, SideMeets, its-level, Premise, structure, quot-major, rec-major, number-row, first-number, second-number}
+use Rattle.rules.specs.Refusals.{Demand, row, level, RowDue, Asks, Meets, in-premise, in-firing, SideMeets, its-level, Premise, structure, quot-major}
+use Rattle.rules.specs.Refusals.{rec-major, number-row, first-number, second-number}
 use Rattle.rules.specs.Refusals as F
-use Rattle.course.specs.Tries.{Try, no-rule, fires, writes, reduces, with-it, _or-else_, lambda, variable, projection, quot, recursion, arithmetic, delta, constant, atRow, rules, End, missed, firing, Runs, Comes, misses, fires-now, wrote, side, RunMeets, trying, paying, TryMeets, writing, after-writing, too-deep, after-side}
+use Rattle.course.specs.Tries.{Try, no-rule, fires, writes, reduces, with-it, _or-else_, lambda, variable, projection, quot, recursion}
+use Rattle.course.specs.Tries.{arithmetic, delta, constant, atRow, rules, End, missed, firing, Runs, Comes, misses, fires-now, wrote, side}
+use Rattle.course.specs.Tries.{RunMeets, trying, paying, TryMeets, writing, after-writing, too-deep, after-side}
 use Rattle.course.specs.Tries as Y
 
 module _ (e : Env) where

@@ -12,7 +12,8 @@ use Rattle.rules.specs.Declarations.{Env}
 use Rattle.rules.specs.Spines.{Spine}
 use Rattle.rules.specs.Firings.{Tally, tally, Result, a-number, NumberFits, number-fits, AllFit, and-then, Written, Pays}
 use Rattle.rules.specs.Refusals.{Demand, row, RowDue, Asks, its-step, its-number, its-row, Limits, Within, Fails, no-step, no-free-row, too-large, no-size}
-use Rattle.course.specs.Tries.{Try, rules, End, Runs, final, then, Comes, wrote, side, RunMeets, trying, paying, later, TryMeets, writing, after-writing, too-deep, within, after-side}
+use Rattle.course.specs.Tries.{Try, rules, End, Runs, final, then, Comes, wrote, side, RunMeets, trying, paying, later, TryMeets, writing}
+use Rattle.course.specs.Tries.{after-writing, too-deep, within, after-side}
 use Rattle.promises.specs.Stores.{within-earlier, later-trans, later-pays, later-runs, later-comes}
 use Rattle.promises.specs.Same.{spine-same, due-same, not-both, same-firing, pays-on, side-same, through-one, runs-same, comes-same}
 

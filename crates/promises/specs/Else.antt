@@ -9,7 +9,8 @@ use Rattle.rules.specs.Rows.{Ptr, rowAt, grow}
 use Rattle.rules.specs.Declarations.{Env}
 use Rattle.rules.specs.Firings.{Tally, tally, Result}
 use Rattle.rules.specs.Refusals.{Demand, Limits}
-use Rattle.course.specs.Tries.{Try, no-rule, fires, writes, reduces, _or-else_, End, missed, firing, Comes, misses, fires-now, wrote, side, TryMeets, writing, after-writing, too-deep, within, after-side}
+use Rattle.course.specs.Tries.{Try, no-rule, fires, writes, reduces, _or-else_, End, missed, firing, Comes, misses, fires-now, wrote, side, TryMeets}
+use Rattle.course.specs.Tries.{writing, after-writing, too-deep, within, after-side}
 use Rattle.course.specs.Eval.{Spined, spine, Res, ok, no, lost, Ans, refuse, gone, Side, charge, wroteOn, spineThen, sideOn, try}
 use Rattle.course.specs.Eval as E
 

@@ -9,8 +9,10 @@ use Rattle.rules.specs.Rows.{Ptr, Cell, Store}
 use Rattle.rules.specs.Declarations.{Env}
 use Rattle.rules.specs.Spines.{Spine}
 use Rattle.rules.specs.Firings.{Tally, tally, Result, a-number, NumberFits, Written, Pays}
-use Rattle.rules.specs.Refusals.{Demand, step, fitting, row, RowDue, Asks, its-step, its-number, its-row, Limits, Within, Fails, no-step, no-free-row, no-level, too-large, no-size}
-use Rattle.course.specs.Tries.{Try, rules, End, firing, Runs, Comes, RunMeets, trying, paying, later, TryMeets, writing, after-writing, too-deep, within, after-side}
+use Rattle.rules.specs.Refusals.{Demand, step, fitting, row, RowDue, Asks, its-step, its-number, its-row, Limits, Within, Fails, no-step, no-free-row}
+use Rattle.rules.specs.Refusals.{no-level, too-large, no-size}
+use Rattle.course.specs.Tries.{Try, rules, End, firing, Runs, Comes, RunMeets, trying, paying, later, TryMeets, writing, after-writing, too-deep}
+use Rattle.course.specs.Tries.{within, after-side}
 use Rattle.promises.specs.Stores.{within-earlier, later-trans, later-asks, later-pays, later-run-meets, later-try-meets}
 use Rattle.promises.specs.Same.{due-same, same-firing, pays-on, side-same, through-one, runs-same, comes-same}
 use Rattle.promises.specs.Apart.{row-apart, number-apart, pays-apart, meets-through, runs-apart, comes-apart}

@@ -12,7 +12,8 @@ use Rattle.rules.specs.Firings.{Tally, tally, Result, a-number}
 use Rattle.rules.specs.Refusals.{Limits}
 use Rattle.course.specs.Views.{Cmp, at-most, over, cmp, FitView, fits, no-fit, fitView, NumberView, in-range, too-big, numberView}
 use Rattle.course.specs.Tries.{Try, no-rule, fires, writes, reduces, rules, End, Runs, final, then, Comes, misses, fires-now, wrote, side}
-use Rattle.course.specs.Eval.{Spined, spine, dueOf, Res, ok, no, lost, Ans, missed, firing, refuse, gone, Side, emitOn, emit, paidOn, dueOn, fireOn, fire, wroteOn, spineThen, sideOn, try, atHead, goOn, next, loop, sideAt, eval}
+use Rattle.course.specs.Eval.{Spined, spine, dueOf, Res, ok, no, lost, Ans, missed, firing, refuse, gone, Side, emitOn, emit, paidOn, dueOn, fireOn}
+use Rattle.course.specs.Eval.{fire, wroteOn, spineThen, sideOn, try, atHead, goOn, next, loop, sideAt, eval}
 
 pub record AtLeast (lim lim′ : Limits) : Type 0 where
   pub steps : lim .steps ≤ lim′ .steps

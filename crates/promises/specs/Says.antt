@@ -13,8 +13,10 @@ use Rattle.rules.specs.Spines.{Spine}
 use Rattle.rules.specs.Firings.{Tally, tally, Result, a-number, Due, NumberFits, Pays}
 use Rattle.rules.specs.Refusals.{Demand, Asks, its-step, its-number, its-row, Limits, Within, Fails, no-step, no-level, too-large}
 use Rattle.course.specs.Views.{Cmp, at-most, over, cmp, NumberView, in-range, too-big, numberView}
-use Rattle.course.specs.Tries.{Try, no-rule, fires, writes, reduces, rules, missed, firing, Runs, final, then, Comes, misses, fires-now, wrote, side, RunMeets, trying, paying, later, TryMeets, writing, after-writing, too-deep, within, after-side}
-use Rattle.course.specs.Eval.{Spined, spine, dueOf, Res, ok, no, lost, Ans, refuse, gone, Side, paidOn, dueOn, fireOn, fire, wroteOn, spineThen, sideOn, try, atHead, goOn, next, loop, sideAt, eval}
+use Rattle.course.specs.Tries.{Try, no-rule, fires, writes, reduces, rules, missed, firing, Runs, final, then, Comes, misses, fires-now, wrote, side}
+use Rattle.course.specs.Tries.{RunMeets, trying, paying, later, TryMeets, writing, after-writing, too-deep, within, after-side}
+use Rattle.course.specs.Eval.{Spined, spine, dueOf, Res, ok, no, lost, Ans, refuse, gone, Side, paidOn, dueOn, fireOn, fire, wroteOn, spineThen}
+use Rattle.course.specs.Eval.{sideOn, try, atHead, goOn, next, loop, sideAt, eval}
 use Rattle.course.specs.Eval as E
 use Rattle.promises.specs.Stores.{ext-due, ext-grow, Later, later-comes}
 use Rattle.promises.specs.Lost.{RunLoses, no-head, in-trying, in-paying, in-the-rest, TryLoses, past-rows, in-side, no-side-head, past-side}

@@ -15,7 +15,8 @@ use Rattle.rules.specs.Spines.{joined}
 use Rattle.rules.specs.Firings.{Tally, tally, Result, Gives, by-replacement, no-row, number-row, constant-row, Due, Pays}
 use Rattle.rules.specs.Refusals.{Demand, RowDue, Asks, its-step, its-number, its-row, Limits, Within}
 use Rattle.substitution.specs.Stores.{Ext, ext-same, ext-then, ext-put, ext-length}
-use Rattle.course.specs.Tries.{Try, End, Runs, final, then, Comes, misses, fires-now, wrote, side, RunMeets, trying, paying, later, TryMeets, writing, after-writing, too-deep, within, after-side}
+use Rattle.course.specs.Tries.{Try, End, Runs, final, then, Comes, misses, fires-now, wrote, side, RunMeets, trying, paying, later, TryMeets, writing}
+use Rattle.course.specs.Tries.{after-writing, too-deep, within, after-side}
 
 -- STORES
 

@@ -27,7 +27,8 @@ use Rattle.replace.proofs.ByTable.{tag-is, same-kind, same-tidy}
 use Rattle.replace.proofs.Later.{says-also, Went, went-nowhere, went-then}
 use Rattle.replace.proofs.Indices.{near-refused, near-put}
 use Rattle.replace.proofs.Fields.{FieldKept, FieldSays, field-says, kept-field, went-field}
-use Rattle.replace.proofs.RowParts.{Child, row-is, formed, kind-of, marks, row-node, first-child, second-child, third-child, child-ok, same-height, node-by}
+use Rattle.replace.proofs.RowParts.{Child, row-is, formed, kind-of, marks, row-node, first-child, second-child, third-child, child-ok}
+use Rattle.replace.proofs.RowParts.{same-height, node-by}
 
 -- a child stands in the store
 stands-in : {s : Store} (τ : Tag) (p : rules.Ptr) → FieldOk s (length s) (shown τ p) τ → (τ ≡ plain → ⊥) → p .row < length s

@@ -8,7 +8,8 @@ use lib.Dec.{ltb, leb, eqb}
 use Rattle.rules.specs.Maxima.{most-index, most-level, most-levels}
 use Rattle.rules.specs.Kinds.{Kind, sort, const, proj, Tag, plain, term, body, Tags, table, fields}
 use Rattle.rules.specs.Rows.{Ptr, Row, var, node, Cell, Store, cell, cellAt}
-use Rattle.rules.specs.RowCheck.{InRange, sort-in, const-in, app-in, lam-in, pi-in, let-in, proj-in, num-in, ChildOk, FieldOk, plain-ok, term-ok, body-ok, RowOk, var-ok, node-ok}
+use Rattle.rules.specs.RowCheck.{InRange, sort-in, const-in, app-in, lam-in, pi-in, let-in, proj-in, num-in, ChildOk, FieldOk, plain-ok, term-ok}
+use Rattle.rules.specs.RowCheck.{body-ok, RowOk, var-ok, node-ok}
 use Rattle.rows.specs.declared.kinds.Sizes.{Sizes}
 use Rattle.rows.specs.Words.{kindOf, tagsAt, tagAt, shown, rowBy}
 use Rattle.rows.specs.Checks.{Ranged, var-ranged, node-ranged, Sized, Within, Says, sizesOf}

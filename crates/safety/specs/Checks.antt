@@ -10,7 +10,8 @@ use lib.ListN.{length}
 use Rattle.rules.specs.Maxima.{most-index, most-level, most-levels, most-number, most-bound, most-height}
 use Rattle.rules.specs.Kinds.{Kind, sort, const, app, lam, pi, let′, proj, num, Tag, plain, term, body, fields}
 use Rattle.rules.specs.Rows.{Ptr, blank, Row, var, node, Store, cellAt, rowAt, bound, cell, fieldBound, fieldHeight}
-use Rattle.rules.specs.RowCheck.{InRange, sort-in, const-in, app-in, lam-in, pi-in, let-in, proj-in, num-in, ChildOk, FieldOk, plain-ok, term-ok, body-ok, RowOk, var-ok, node-ok, Passes, InScope}
+use Rattle.rules.specs.RowCheck.{InRange, sort-in, const-in, app-in, lam-in, pi-in, let-in, proj-in, num-in, ChildOk, FieldOk, plain-ok, term-ok}
+use Rattle.rules.specs.RowCheck.{body-ok, RowOk, var-ok, node-ok, Passes, InScope}
 use Rattle.rules.specs.Declarations.{Rule, Form, constructor, recursor, structure, Decl, Entry, Env, nth, declAt}
 use Rattle.rules.specs.Declarations as D
 use Rattle.rules.specs.Accepted.{Closed}

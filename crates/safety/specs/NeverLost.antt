@@ -19,7 +19,8 @@ use Rattle.rules.specs.Refusals.{Limits}
 use Rattle.course.specs.Views.{Cmp, at-most, over, cmp, AppView, is-app, no-app, appView}
 use Rattle.course.specs.Tries.{Try, firing}
 use Rattle.course.specs.Eval.{onField, onRow, onPtr, replaceBy, spineOn, spineBy, spine, give, dueOf, lost, eval}
-use Rattle.substitution.specs.Stores.{FieldsOk, var-fields, node-fields, first-ok, term-child, Formed, Good, good-fields, fields-at, scope-good, Ext, ext-same, ext-then, ext-good-field, ext-field-height, up-child}
+use Rattle.substitution.specs.Stores.{FieldsOk, var-fields, node-fields, first-ok, term-child, Formed, Good, good-fields, fields-at, scope-good, Ext}
+use Rattle.substitution.specs.Stores.{ext-same, ext-then, ext-good-field, ext-field-height, up-child}
 use Rattle.substitution.specs.Passing.{pass-formed}
 use Rattle.substitution.specs.Existence.{ValueGood, some-good, value-good-later, replace-keeps, height-positive}
 use Rattle.substitution.specs.Dues.{ResultGood, opened-good, itself-good, number-good, constant-good}

@@ -12,11 +12,15 @@ use Rattle.rules.specs.Maxima.{most-number}
 use Rattle.rules.specs.Kinds.{const, app, num, table, fields}
 use Rattle.rules.specs.Rows.{Ptr, ptr, blank, Row, node, leaf, Cell, Store, cell, boundOn, bound, fieldBound, grow, put}
 use Rattle.rules.specs.RowCheck.{sort-in, const-in, app-in, lam-in, pi-in, let-in, proj-in, num-in, AllPass, InScope}
-use Rattle.rules.specs.Declarations.{zero′, succ′, true′, false′, quot-mk, roleCode, Rule, Recursor, Form, plain, constructor, recursor, structure, Decl, Env, nth, declAt, holder}
+use Rattle.rules.specs.Declarations.{zero′, succ′, true′, false′, quot-mk, roleCode, Rule, Recursor, Form, plain, constructor, recursor, structure}
+use Rattle.rules.specs.Declarations.{Decl, Env, nth, declAt, holder}
 use Rattle.rules.specs.Arithmetic.{Op, Computed, number, truth}
 use Rattle.rules.specs.Accepted.{Closed}
 use Rattle.rules.specs.Firings.{Result, Written}
-use Rattle.rules.specs.HeadTests.{given, provided, asConstant, asNumber, parametersOf, fieldAt, quotPosition, QuotParts, quotParts, thirdOfThree, quotMade, recursorOf, beforeIndices, majorPosition, RecParts, recParts, Made, made, numberMade, madeOn, asConstructor, ruleOn, ruleFor, lastOf, Ruled, byRule, operationOf, tried, Operands, exactlyTwo, operands, outcome, unfolds}
+use Rattle.rules.specs.HeadTests.{given, provided, asConstant, asNumber, parametersOf, fieldAt, quotPosition, QuotParts, quotParts, thirdOfThree}
+use Rattle.rules.specs.HeadTests.{quotMade, recursorOf, beforeIndices, majorPosition, RecParts, recParts, Made, made, numberMade, madeOn}
+use Rattle.rules.specs.HeadTests.{asConstructor, ruleOn, ruleFor, lastOf, Ruled, byRule, operationOf, tried, Operands, exactlyTwo, operands, outcome}
+use Rattle.rules.specs.HeadTests.{unfolds}
 use Rattle.substitution.specs.Stores.{FieldsOk, Formed, Good, ext-put, put-formed, put-good, put-length, end-cell, ext-good}
 use Rattle.substitution.specs.Passing.{Worded, var-worded, node-worded, AllWorded, pass-formed, pass-worded, pass-sized, all-pass, put-worded, written-sized}
 use Rattle.substitution.specs.Applied.{app-fields}

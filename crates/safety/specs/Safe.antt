@@ -12,12 +12,14 @@ use Rattle.rules.specs.Spines.{Spine}
 use Rattle.rules.specs.Arithmetic.{compute}
 use Rattle.rules.specs.Firings.{Result}
 use Rattle.rules.specs.HeadTests.{fieldAt, quotParts, quotMade, recParts, asConstructor, byRule, asNumber, operands, outcome, unfolds}
-use Rattle.course.specs.Tries.{Try, no-rule, fires, writes, reduces, with-it, _or-else_, lambda, variable, projection, quot, recursion, arithmetic, delta, constant, atRow, rules}
+use Rattle.course.specs.Tries.{Try, no-rule, fires, writes, reduces, with-it, _or-else_, lambda, variable, projection, quot, recursion, arithmetic}
+use Rattle.course.specs.Tries.{delta, constant, atRow, rules}
 use Rattle.substitution.specs.Stores.{Ext, ext-same, ext-then}
 use Rattle.substitution.specs.Passing.{Worded}
 use Rattle.promises.specs.Stores.{ext-grow}
 use Rattle.safety.specs.Sane.{depthOf, declCount, Sane, in-later, sane-later, closed-in}
-use Rattle.safety.specs.Scope.{AllIn, none-in, and-in, all-later, value-in, RowIn, row-in, lambda-body-in, let-value-in, let-body-in, structure-in, spine-in, ResultIn, opened-in, itself-in}
+use Rattle.safety.specs.Scope.{AllIn, none-in, and-in, all-later, value-in, RowIn, row-in, lambda-body-in, let-value-in, let-body-in}
+use Rattle.safety.specs.Scope.{structure-in, spine-in, ResultIn, opened-in, itself-in}
 use Rattle.safety.specs.Parts.{field-in, quot-in, made-in, rec-in, RowsIn, constructor-in, by-rule-in, operands-in, outcome-in, unfolds-to}
 
 -- with D declarations, at depth d; what follows rows or a side reduction is asked only of stores whose rows pass

@@ -11,7 +11,8 @@ use lib.ListN.{length, List·getD-eq-default}
 use lib.Dec.{eqb}
 use Rattle.rules.specs.Rows.{Ptr, Cell, Store, boundOn}
 use Rattle.rules.specs.RowCheck.{AllPass, InScope}
-use Rattle.rules.specs.Declarations.{Role, roleCode, Rule, Recursor, Form, plain, recursor, Decl, Entry, Env, nth, declAt, holderOn, holderFrom, holder, valueOn, valueOf}
+use Rattle.rules.specs.Declarations.{Role, roleCode, Rule, Recursor, Form, plain, recursor, Decl, Entry, Env, nth, declAt, holderOn, holderFrom}
+use Rattle.rules.specs.Declarations.{holder, valueOn, valueOf}
 use Rattle.rules.specs.Accepted.{Lent, Closed, FormOk, recursor-ok, libraryRows, Accepted}
 use Rattle.rules.specs.Refusals.{Limits}
 use Rattle.rules.specs.Call.{limitsOf}

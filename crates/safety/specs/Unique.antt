@@ -11,7 +11,8 @@ use Rattle.rules.specs.Rows.{Ptr, Row, Cell, Store, rowAt, cell}
 use Rattle.rules.specs.RowCheck.{ChildOk, FieldOk, plain-ok, term-ok, body-ok, RowOk, var-ok, node-ok, Fits, Passes, InScope}
 use Rattle.rules.specs.Kinds.{Tag}
 use Rattle.rules.specs.Declarations.{Decl, Entry, Env, nth, declAt}
-use Rattle.rules.specs.Accepted.{Lent, IsRow, IsDecl, IsEntry, DeclOk, EntryOk, Keep, Lowest, libraryRows, rowWords, declarationCount, RowsKept, DeclarationsKept, RecordsKept, Accepted, NotAccepted, no-sizes, a-row, a-declaration, a-record, the-term}
+use Rattle.rules.specs.Accepted.{Lent, IsRow, IsDecl, IsEntry, DeclOk, EntryOk, Keep, Lowest, libraryRows, rowWords, declarationCount, RowsKept}
+use Rattle.rules.specs.Accepted.{DeclarationsKept, RecordsKept, Accepted, NotAccepted, no-sizes, a-row, a-declaration, a-record, the-term}
 use Rattle.substitution.specs.Places.{Place, below, here, past, place}
 use Rattle.substitution.specs.Stores.{Ext, ext-cell, ext-new-cell}
 use Rattle.substitution.specs.Passing.{row-fields}

@@ -9,8 +9,11 @@ use lib.ListN.{getD}
 use Rattle.rules.specs.Kinds.{num}
 use Rattle.rules.specs.Rows.{Ptr, ptr, leaf, Cell}
 use Rattle.rules.specs.Arithmetic.{Op, add, sub, mul, div, mod′, beq, ble, wordsValue}
-use Rattle.rules.specs.Declarations.{Role, no-role, nat, zero′, succ′, true′, false′, quot-mk, quot-lift, quot-ind, arith as operation, opCode, roleCode, Rule, Form, recursor, Decl, Entry}
-use Rattle.rules.specs.Accepted.{recorded, IsRow, var-row, sort-row, const-row, app-row, lam-row, pi-row, let-row, proj-row, num-row, IsRule, rule-words, AreRules, IsForm, plain-words, constructor-words, recursor-words, structure-words, IsValue, absent, present, IsDecl, decl-words, IsEntry, entry-words}
+use Rattle.rules.specs.Declarations.{Role, no-role, nat, zero′, succ′, true′, false′, quot-mk, quot-lift, quot-ind, arith as operation, opCode}
+use Rattle.rules.specs.Declarations.{roleCode, Rule, Form, recursor, Decl, Entry}
+use Rattle.rules.specs.Accepted.{recorded, IsRow, var-row, sort-row, const-row, app-row, lam-row, pi-row, let-row, proj-row, num-row, IsRule}
+use Rattle.rules.specs.Accepted.{rule-words, AreRules, IsForm, plain-words, constructor-words, recursor-words, structure-words, IsValue, absent}
+use Rattle.rules.specs.Accepted.{present, IsDecl, decl-words, IsEntry, entry-words}
 use Rattle.safety.specs.Lists.{nth-ext}
 
 pub row-same : {ws : List ℕ} {c c′ : Cell} → IsRow ws c → IsRow ws c′ → c ≡ c′

@@ -19,7 +19,8 @@ use Rattle.course.specs.Tables.{at, ap′, declared, Case, answerOf, seen}
 use Rattle.safety.specs.Sane.{Ready}
 use Rattle.safety.specs.Checks.{passed, what-passed, each-at, readyAt}
 use Rattle.safety.specs.Answers.{Holds, holds-same, one-holds}
-use Rattle.safety.specs.ExamplesOfRules.{limitsFor, CaseReady, RulesSay, result, case-holds, rules-computed, answer-seen, table-ready, E1-to-E11-of-the-rules}
+use Rattle.safety.specs.ExamplesOfRules.{limitsFor, CaseReady, RulesSay, result, case-holds, rules-computed, answer-seen, table-ready}
+use Rattle.safety.specs.ExamplesOfRules.{E1-to-E11-of-the-rules}
 use Rattle.course.specs.Examples.{ask, decls, library, table, E1, E2, E3, E4}
 
 -- A REDUCER

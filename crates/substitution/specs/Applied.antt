@@ -10,7 +10,8 @@ use Rattle.rules.specs.Rows.{Ptr, blank, node, Store, up}
 use Rattle.rules.specs.RowCheck.{plain-ok, term-ok}
 use Rattle.rules.specs.Spines.{Spine, head, through, joined}
 use Rattle.rules.specs.ReadOut.{Tree, app, shift, Reads, ReadsRow, reads-app}
-use Rattle.substitution.specs.Stores.{FieldsOk, node-fields, first-ok, second-ok, term-child, Formed, Good, fields-at, Ext, ext-same, ext-then, ext-good, up-child}
+use Rattle.substitution.specs.Stores.{FieldsOk, node-fields, first-ok, second-ok, term-child, Formed, Good, fields-at, Ext, ext-same, ext-then}
+use Rattle.substitution.specs.Stores.{ext-good, up-child}
 use Rattle.substitution.specs.Reading.{reads-exists, reads-later, at-row}
 use Rattle.substitution.specs.Bounds.{reads-up}
 use Rattle.substitution.specs.Replacing.{Replaced, put-reads}

@@ -8,7 +8,8 @@ use mathlib.Core.Path.{_≡_, refl, sym, ap, ap₂, _∙_, subst as along}
 use lib.ListN.{length}
 use Rattle.rules.specs.Kinds.{table, fields}
 use Rattle.rules.specs.Rows.{Ptr, Row, Cell, Store, cellAt, rowAt, boundOn, bound, upOn, up, fieldBound, fieldHeight, cell}
-use Rattle.rules.specs.ReadOut.{Tree, var, sort, const, app, lam, pi, let′, proj, num, shift, Reads, shifted, ReadsRow, reads-var, reads-sort, reads-const, reads-app, reads-lam, reads-pi, reads-let, reads-proj, reads-num}
+use Rattle.rules.specs.ReadOut.{Tree, var, sort, const, app, lam, pi, let′, proj, num, shift, Reads, shifted, ReadsRow, reads-var, reads-sort}
+use Rattle.rules.specs.ReadOut.{reads-const, reads-app, reads-lam, reads-pi, reads-let, reads-proj, reads-num}
 use Rattle.substitution.specs.Places.{Place, below, here, past, place}
 use Rattle.substitution.specs.Trees.{loose, treeHeight, shift-low, shift-high}
 use Rattle.substitution.specs.TreeLaws.{shift-closed, shift-shift}

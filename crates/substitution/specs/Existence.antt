@@ -12,7 +12,8 @@ use Rattle.rules.specs.Rows.{Ptr, ptr, Row, var, node, Cell, Store, cellAt, row
 use Rattle.rules.specs.RowCheck.{FieldOk, plain-ok, term-ok, body-ok}
 use Rattle.rules.specs.Replacement.{count, Replaces, same, moved, inside, OnRow, stays, value, moves, children, OnField, word, child, under}
 use Rattle.substitution.specs.Places.{Place, below, here, past, place}
-use Rattle.substitution.specs.Stores.{FieldsOk, var-fields, node-fields, Formed, Good, good-fields, Ext, ext-same, ext-then, ext-good, ext-good-field, ext-field-height}
+use Rattle.substitution.specs.Stores.{FieldsOk, var-fields, node-fields, Formed, Good, good-fields, Ext, ext-same, ext-then, ext-good}
+use Rattle.substitution.specs.Stores.{ext-good-field, ext-field-height}
 use Rattle.substitution.specs.Reading.{reads-exists}
 use Rattle.substitution.specs.Replacing.{no-value, a-value, replace-moves}
 

@@ -14,7 +14,8 @@ use Rattle.rules.specs.Replacement.{Replaces, same, moved, inside, OnRow, stays
 use Rattle.rules.specs.Spines.{joined}
 use Rattle.rules.specs.Firings.{Tally, Result, a-number, Gives, by-replacement, no-row, number-row, constant-row, Due, NumberFits, number-fits, Written, Pays}
 use Rattle.substitution.specs.Stores.{Good, Ext}
-use Rattle.substitution.specs.Passing.{Worded, var-worded, node-worded, AllWorded, pass-formed, pass-worded, pass-sized, all-pass, put-worded, written-sized}
+use Rattle.substitution.specs.Passing.{Worded, var-worded, node-worded, AllWorded, pass-formed, pass-worded, pass-sized, all-pass, put-worded}
+use Rattle.substitution.specs.Passing.{written-sized}
 use Rattle.substitution.specs.Existence.{ValueGood, replace-keeps}
 use Rattle.substitution.specs.Applied.{AllGood}
 use Rattle.substitution.specs.Dues.{ResultGood, opened-good, itself-good, number-good, constant-good, due-keeps}

@@ -11,7 +11,8 @@ use Rattle.rules.specs.Rows.{Ptr, Row, var, node, Cell, Store, cellAt, rowAt, c
 use Rattle.rules.specs.RowCheck.{InRange, sort-in, RowOk, var-ok, node-ok, Fits, AllPass}
 use Rattle.rules.specs.Firings.{AllFit, none-left, and-then, Written}
 use Rattle.substitution.specs.Places.{Place, below, here, past, place}
-use Rattle.substitution.specs.Stores.{FieldsOk, var-fields, node-fields, first-ok, second-ok, third-ok, Formed, ext-put, ext-cell, ext-written, ext-row, ext-new, no-cell, past-end, end-cell, end-row, by-end, put-length, put-formed}
+use Rattle.substitution.specs.Stores.{FieldsOk, var-fields, node-fields, first-ok, second-ok, third-ok, Formed, ext-put, ext-cell, ext-written}
+use Rattle.substitution.specs.Stores.{ext-row, ext-new, no-cell, past-end, end-cell, end-row, by-end, put-length, put-formed}
 
 -- a row's plain words are in range; a variable's index has its range from the row's bound
 pub data Worded (D : ℕ) : Row → Type 0 where

@@ -9,10 +9,12 @@ use Rattle.rules.specs.Kinds.{Kind, Tag, plain, term, body, table, fields}
 use Rattle.rules.specs.Kinds as K
 use Rattle.rules.specs.Rows.{Ptr, ptr, Row, node, Store, rowAt}
 use Rattle.rules.specs.RowCheck.{FieldOk, plain-ok, term-ok, body-ok}
-use Rattle.rules.specs.ReadOut.{Tree, var, sort, const, app, lam, pi, let′, proj, num, shift, Reads, shifted, ReadsRow, reads-var, reads-sort, reads-const, reads-app, reads-lam, reads-pi, reads-let, reads-proj, reads-num}
+use Rattle.rules.specs.ReadOut.{Tree, var, sort, const, app, lam, pi, let′, proj, num, shift, Reads, shifted, ReadsRow, reads-var, reads-sort}
+use Rattle.rules.specs.ReadOut.{reads-const, reads-app, reads-lam, reads-pi, reads-let, reads-proj, reads-num}
 use Rattle.substitution.specs.Trees.{build, let-eq}
 use Rattle.substitution.specs.TreeLaws.{shift-zero}
-use Rattle.substitution.specs.Stores.{FieldsOk, var-fields, node-fields, first-ok, second-ok, third-ok, term-child, body-child, Formed, Good, good-fields, Ext, ext-row}
+use Rattle.substitution.specs.Stores.{FieldsOk, var-fields, node-fields, first-ok, second-ok, third-ok, term-child, body-child, Formed, Good}
+use Rattle.substitution.specs.Stores.{good-fields, Ext, ext-row}
 
 -- BY THE TABLE
 

@@ -15,8 +15,11 @@ use Rattle.rules.specs.ReadOut.{Tree, var, shift, subst, Reads, shifted, ReadsR
 use Rattle.substitution.specs.Trees.{move, build, cutoff, move-build, move-low, move-here, move-high}
 use Rattle.substitution.specs.Trees as T
 use Rattle.substitution.specs.TreeLaws.{move-closed, move-shift, move-under, move-none, move-some}
-use Rattle.substitution.specs.Stores.{FieldsOk, var-fields, node-fields, first-ok, second-ok, third-ok, term-child, body-child, Formed, Good, good-fields, Ext, ext-same, ext-then, ext-put, ext-good, ext-good-field, end-row, put-good, put-formed, up-child}
-use Rattle.substitution.specs.Reading.{ReadsField, no-term, as-term, as-body, row-fields, fields-row, of-term, of-body, before-shift, reads-unshifted, reads-later, row-later, field-later}
+use Rattle.substitution.specs.Stores.{FieldsOk, var-fields, node-fields, first-ok, second-ok, third-ok, term-child, body-child, Formed, Good}
+use Rattle.substitution.specs.Stores.{good-fields, Ext, ext-same, ext-then, ext-put, ext-good, ext-good-field, end-row, put-good, put-formed}
+use Rattle.substitution.specs.Stores.{up-child}
+use Rattle.substitution.specs.Reading.{ReadsField, no-term, as-term, as-body, row-fields, fields-row, of-term, of-body, before-shift}
+use Rattle.substitution.specs.Reading.{reads-unshifted, reads-later, row-later, field-later}
 use Rattle.substitution.specs.Bounds.{bound-is-loose, reads-up}
 
 -- what replacement leaves: rows put at the end of the store, which stays formed, and a good pointer that reads as t

@@ -9,7 +9,8 @@ use lib.ListN.{length}
 use Rattle.rules.specs.Rows.{Store, cellAt}
 use Rattle.rules.specs.RowCheck.{Passes, InScope}
 use Rattle.rules.specs.Declarations.{Decl, Entry}
-use Rattle.rules.specs.Accepted.{Lent, IsRow, IsDecl, IsEntry, DeclOk, EntryOk, Keep, Lowest, Sizes, libraryRows, rowWords, declarationCount, RowsKept, DeclarationsKept, RecordsKept, Accepted, NotAccepted, no-sizes, a-row, a-declaration, a-record, the-term}
+use Rattle.rules.specs.Accepted.{Lent, IsRow, IsDecl, IsEntry, DeclOk, EntryOk, Keep, Lowest, Sizes, libraryRows, rowWords, declarationCount, RowsKept}
+use Rattle.rules.specs.Accepted.{DeclarationsKept, RecordsKept, Accepted, NotAccepted, no-sizes, a-row, a-declaration, a-record, the-term}
 use Rattle.rows.specs.declared.row_check.Checked.{Checked}
 use Rattle.rows.specs.declared.row_check.Checked.the-variants.{AllPass, Broken}
 use Rattle.rows.specs.Words.{whole, storeOf, Held}

@@ -17,7 +17,8 @@ use Rattle.rows.proofs.Answers.{says-yes, says-no, says-same, says-equal, says-
 use Rattle.rows.proofs.Lookup.{closed-bound, open-bound}
 use Rattle.tables.specs.declared.Rule as code
 use Rattle.tables.specs.Read.{ruleRead}
-use Rattle.tables.specs.Clauses.{Rows, Scoped, ValueRight, no-value, a-value, Idle, RuleRight, RulesRight, RecursorRight, FormRight, plain-right, constructor-right, recursor-right, structure-right, DeclRight, RoleFree, EntryRight}
+use Rattle.tables.specs.Clauses.{Rows, Scoped, ValueRight, no-value, a-value, Idle, RuleRight, RulesRight, RecursorRight, FormRight, plain-right}
+use Rattle.tables.specs.Clauses.{constructor-right, recursor-right, structure-right, DeclRight, RoleFree, EntryRight}
 
 -- ANSWERS IN TURN
 

@@ -10,7 +10,8 @@ use Rattle.rules.specs.Rows.{Store}
 use Rattle.rules.specs.Accepted.{IsConstructor}
 use Rattle.rows.specs.Checks.{Says}
 use Rattle.rows.proofs.Answers.{says-no, says-same}
-use Rattle.tables.specs.Clauses.{Idle, RuleRight, RulesRight, RecursorRight, FormRight, plain-right, constructor-right, recursor-right, structure-right, DeclRight}
+use Rattle.tables.specs.Clauses.{Idle, RuleRight, RulesRight, RecursorRight, FormRight, plain-right, constructor-right, recursor-right}
+use Rattle.tables.specs.Clauses.{structure-right, DeclRight}
 use Rattle.tables.proofs.ClauseTests.{part-fails, part-holds}
 
 module _ (ds rs : List ℕ) (s : Store) (L : ℕ) (ws : List ℕ) where

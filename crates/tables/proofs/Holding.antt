@@ -12,7 +12,8 @@ use borrow.Author.Tests.{eq-eqb, ne-eqb}
 use lib.Dec.{eqb}
 use lib.ListN.{length, getD, set, replicate, length-replicate, getD-replicate, length-set}
 use lib.Seq.{getD-set-same, getD-set-other, getD-take, getD-drop}
-use Rattle.rules.specs.Declarations.{Role, no-role, nat, zero′, succ′, true′, false′, quot-mk, quot-lift, quot-ind, arith as operation, roleCode, holderOn, holderFrom, holder}
+use Rattle.rules.specs.Declarations.{Role, no-role, nat, zero′, succ′, true′, false′, quot-mk, quot-lift, quot-ind, arith as operation, roleCode}
+use Rattle.rules.specs.Declarations.{holderOn, holderFrom, holder}
 use Rattle.rules.specs.Arithmetic.{add, sub, mul, div, mod′, beq, ble}
 use Rattle.rules.specs.Accepted.{part}
 use Rattle.tables.specs.Records.{recordsFrom}

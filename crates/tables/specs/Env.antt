@@ -6,7 +6,8 @@ use mathlib.Core.Option.{Option, none, some}
 use lib.ListN.{length, getD}
 use Rattle.rules.specs.Rows.{Ptr, ptr}
 use Rattle.rules.specs.Arithmetic.{add, sub, mul, div, mod′, beq, ble}
-use Rattle.rules.specs.Declarations.{Role, no-role, nat, zero′, succ′, true′, false′, quot-mk, quot-lift, quot-ind, arith, Rule, Recursor, Form, plain, constructor, recursor, structure, Decl, Entry, Env}
+use Rattle.rules.specs.Declarations.{Role, no-role, nat, zero′, succ′, true′, false′, quot-mk, quot-lift, quot-ind, arith, Rule, Recursor, Form, plain}
+use Rattle.rules.specs.Declarations.{constructor, recursor, structure, Decl, Entry, Env}
 use Rattle.tables.specs.Records.{recordsFrom}
 
 -- the roles by their codes

@@ -9,9 +9,11 @@ use Rattle.rules.specs.Rows.{Ptr, Row, var, node, Store, rowAt, up, grow}
 use Rattle.rules.specs.Declarations.{Decl, Env, declAt, valueOf}
 use Rattle.rules.specs.Arithmetic.{compute}
 use Rattle.rules.specs.Firings.{Tally, tally, Result, opened, itself}
-use Rattle.rules.specs.HeadTests.{fieldAt, QuotParts, quotParts, quotMade, RecParts, recParts, Made, asConstructor, Ruled, byRule, asNumber, Operands, operands, outcome, unfolds}
+use Rattle.rules.specs.HeadTests.{fieldAt, QuotParts, quotParts, quotMade, RecParts, recParts, Made, asConstructor, Ruled, byRule, asNumber, Operands}
+use Rattle.rules.specs.HeadTests.{operands, outcome, unfolds}
 use Rattle.rules.specs.Refusals.{Limits}
-use Rattle.course.specs.Tries.{Try, no-rule, fires, writes, reduces, with-it, _or-else_, lambda, variable, projection, quot, recursion, arithmetic, delta, constant, atRow, rules}
+use Rattle.course.specs.Tries.{Try, no-rule, fires, writes, reduces, with-it, _or-else_, lambda, variable, projection, quot, recursion, arithmetic}
+use Rattle.course.specs.Tries.{delta, constant, atRow, rules}
 use Rattle.course.specs.Eval.{Spined, spine, Res, ok, no, Ans, missed, firing, refuse, Side, charge, try, atHead}
 use Rattle.promises.specs.Else.{andThen, try-else}
 

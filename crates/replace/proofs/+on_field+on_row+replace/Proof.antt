@@ -12,7 +12,8 @@ use Rattle.replace.proofs.replace.Reads as replace
 use Rattle.replace.proofs.+on_field+on_row+replace.Lts-replace as replace-lts
 use Rattle.replace.proofs.+on_field+on_row+replace.{statement}
 use Rattle.replace.proofs.+on_field+on_row+replace.Tie.{close}
-use Rattle.replace.proofs.+on_field+on_row+replace.Proof.Measure.{μ-on-field, μ-on-row, μ-replace, on-field-at, on-row-at, replace-at, on-field-claims, on-row-claims, replace-claims}
+use Rattle.replace.proofs.+on_field+on_row+replace.Proof.Measure.{μ-on-field, μ-on-row, μ-replace, on-field-at, on-row-at, replace-at}
+use Rattle.replace.proofs.+on_field+on_row+replace.Proof.Measure.{on-field-claims, on-row-claims, replace-claims}
 
 pub +on-field+on-row+replace-spec : {M : Type 1} → statement M
 +on-field+on-row+replace-spec =

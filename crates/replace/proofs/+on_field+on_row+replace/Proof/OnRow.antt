@@ -9,7 +9,8 @@ use Rattle.rows.specs.Words.{shapeAt, tagAt, wordsAt}
 use Rattle.rows.proofs.Lookup.{nine-read, shape-read}
 use Rattle.replace.specs.Replaced.{RowReady}
 use Rattle.replace.proofs.RowParts.{row-stands, formed, index-ready, index-row, child-asked}
-use Rattle.replace.proofs.Turns.{Opened, Turn, begun, answered, turned, turn-after, first, second, third, first-refused, second-refused, third-refused, new-due, made-row}
+use Rattle.replace.proofs.Turns.{Opened, Turn, begun, answered, turned, turn-after, first, second, third, first-refused, second-refused}
+use Rattle.replace.proofs.Turns.{third-refused, new-due, made-row}
 use Rattle.replace.proofs.on_row.Reads as on-row
 use Rattle.replace.proofs.+on_field+on_row+replace.Lts-on_row as on-row-lts
 use Rattle.replace.proofs.+on_field+on_row+replace.Proof.Measure.{on-row-at, on-row-claims}

@@ -1,6 +1,7 @@
 -- A pointer: it stays, its shift moves, or its row is replaced in and the result shifted up. Assumes nothing.
 use borrow.Author.Needs.{needs}
-use Rattle.replace.proofs.Pointers.{rank-falls, pointer-stands, same-done, moved-done, row-ready, Inside, goes-inside, inside-refused, inside-stands, inside-shift, inside-done}
+use Rattle.replace.proofs.Pointers.{rank-falls, pointer-stands, same-done, moved-done, row-ready, Inside, goes-inside, inside-refused}
+use Rattle.replace.proofs.Pointers.{inside-stands, inside-shift, inside-done}
 use Prim.Native.Nat.{ℕ}
 use Rattle.replace.specs.Replaced.{PtrReady}
 use Rattle.replace.proofs.replace.Reads as replace

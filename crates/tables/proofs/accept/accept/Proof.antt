@@ -7,7 +7,8 @@ use borrow.Author.Tests.{not-true}
 use Rattle.rules.specs.Accepted.{Lent, Sizes, RowsKept, DeclarationsKept, RecordsKept, no-sizes}
 use Rattle.tables.specs.Verdicts.{lentOf, envIn, storeIn, refused}
 use Rattle.tables.proofs.ClauseTests.{part-holds}
-use Rattle.tables.proofs.Accepting.{held, library-stands, used-stand, few-rows, declarations-there, rows-kept, a-row-broken, declarations-kept, a-declaration-broken, records-kept, a-record-broken, the-term-broken, all-accepted}
+use Rattle.tables.proofs.Accepting.{held, library-stands, used-stand, few-rows, declarations-there, rows-kept, a-row-broken, declarations-kept}
+use Rattle.tables.proofs.Accepting.{a-declaration-broken, records-kept, a-record-broken, the-term-broken, all-accepted}
 use Rattle.tables.proofs.accept.accept.Statement.{statement}
 use Rattle.tables.proofs.accept.accept.Tie as tie
 
