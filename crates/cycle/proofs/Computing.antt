@@ -26,16 +26,12 @@ use Rattle.state.specs.declared.Answer.{Answer}
 use Rattle.state.specs.declared.Answer.the-variants.{Final, Refused}
 use Rattle.state.specs.declared.Reduced.the-variants as reduced
 use Rattle.state.specs.State.{tallyOf, limitsIn, Left}
-use Rattle.cycle.specs.Cycle.{Asked, Counted, Ran, stepBy, resBy}
+use Rattle.cycle.specs.Cycle.{Asked, Counted, Ran, resBy}
+use Rattle.cycle.specs.Members.{computed}
 use Rattle.cycle.specs.Course.{ended}
 use Rattle.cycle.proofs.Standing.{to-depth, nothing-passed}
 use Rattle.cycle.proofs.WaysOut.{refused-left, final-left, headRow, q-asked, t-counted, grown-store, side-ended, missed-after, fired-after}
 use Rattle.cycle.proofs.WaysOut.{through, second-says}
-
-module _ (l ds rs cs sc : List ℕ) (g : Given) (m : Meter) (t : Ptr) (n d : ℕ) where
-  -- the member's promise
-  abbrev pub computed : Step
-  computed = stepBy l ds rs cs sc g m n λ e s. arithmetic e (declAt (e .decls) d) (argsOf s (ptrOf t))
 
 module _ {l ds rs cs sc : List ℕ} {g : Given} {m : Meter} {t : Ptr} {count : ℕ} (c : Counted l ds rs cs sc g m t count) (n d : ℕ) where
   abbrev e : Env

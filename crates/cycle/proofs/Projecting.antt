@@ -24,13 +24,9 @@ use Rattle.state.specs.declared.Answer.{Answer}
 use Rattle.state.specs.declared.Answer.the-variants.{Final, Refused}
 use Rattle.state.specs.declared.Reduced.the-variants as reduced
 use Rattle.state.specs.State.{tallyOf, limitsIn, Left}
-use Rattle.cycle.specs.Cycle.{Counted, Ran, stepBy, resBy}
+use Rattle.cycle.specs.Cycle.{Counted, Ran, resBy}
+use Rattle.cycle.specs.Members.{projected}
 use Rattle.cycle.proofs.WaysOut.{refused-left, headRow, side-ended, same-arguments, major-arguments, missed-after, fired-after}
-
-module _ (l ds rs cs sc : List ℕ) (g : Given) (m : Meter) (t : Ptr) (n : ℕ) (x : Ptr) (index : ℕ) where
-  -- the member's promise
-  abbrev pub projected : Step
-  projected = stepBy l ds rs cs sc g m n λ e s. projection e (ptrOf x) index (argsOf s (ptrOf t))
 
 module _ {l ds rs cs sc : List ℕ} {g : Given} {m : Meter} {t : Ptr} {count : ℕ} (c : Counted l ds rs cs sc g m t count) (n index : ℕ)
     {x : Ptr} (i : InScope (storeOf l sc (m .mark)) (g .depth) (ptrOf x)) where

@@ -30,7 +30,8 @@ use Rattle.state.specs.declared.Answer.{Answer}
 use Rattle.state.specs.declared.Answer.the-variants.{Final, Refused}
 use Rattle.state.specs.declared.Reduced.the-variants as reduced
 use Rattle.state.specs.State.{tallyOf, limitsIn, Left}
-use Rattle.cycle.specs.Cycle.{Counted, Ran, stepBy, resBy}
+use Rattle.cycle.specs.Cycle.{Counted, Ran, resBy}
+use Rattle.cycle.specs.Members.{quotient}
 use Rattle.cycle.proofs.Standing.{to-depth, nothing-passed}
 use Rattle.cycle.proofs.WaysOut.{refused-left, final-left, headRow, q-asked, grown-store, side-ended, same-arguments, major-arguments}
 use Rattle.cycle.proofs.WaysOut.{missed-after, fired-after}
@@ -101,11 +102,6 @@ few-parts D xs {n} q h =
     rw q (too-few (nth xs 3) _ λ f a. too-few (nth xs n) _ λ x b. absurd (omega (O.arith, nth-inside xs n b)))
 
 -- THE WAYS OUT
-module _ (l ds rs cs sc : List ℕ) (g : Given) (m : Meter) (t : Ptr) (n d : ℕ) where
-  -- the member's promise
-  abbrev pub quotient : Step
-  quotient = stepBy l ds rs cs sc g m n λ e s. quot e (declAt (e .decls) d) (argsOf s (ptrOf t))
-
 module _ {l ds rs cs sc : List ℕ} {g : Given} {m : Meter} {t : Ptr} {count : ℕ} (c : Counted l ds rs cs sc g m t count) (n d : ℕ) where
   abbrev D : Decl
   D = declAt (envOf ds rs cs (g .depth) .decls) d

@@ -38,15 +38,11 @@ use Rattle.state.specs.declared.Reduced.the-variants as reduced
 use Rattle.state.specs.State.{tallyOf, limitsIn, Left}
 use Rattle.majors.specs.Majors.{Agrees, majorOf, NotMade, RefusedMade, MadeAs}
 use Rattle.majors.proofs.ForCallers.{holders-agree}
-use Rattle.cycle.specs.Cycle.{Stand, Counted, Passed, Ran, stepBy, resBy}
+use Rattle.cycle.specs.Cycle.{Stand, Counted, Passed, Ran, resBy}
+use Rattle.cycle.specs.Members.{recursed}
 use Rattle.cycle.specs.Course.{parts-in, fires-in}
 use Rattle.cycle.proofs.Standing.{to-depth, stand-within, stand-on, counted-on, nothing-passed, ran-passed, limits-on, left-on, passed-on}
 use Rattle.cycle.proofs.WaysOut.{refused-left, final-left, left-as, q-asked, t-counted, grown-store, major-arguments, side-ended, missed-after, through}
-
-module _ (l ds rs cs sc : List ℕ) (g : Given) (m : Meter) (t : Ptr) (n d levels : ℕ) where
-  -- the member's promise
-  abbrev pub recursed : Step
-  recursed = stepBy l ds rs cs sc g m n λ e s. recursion e (declAt (e .decls) d) levels (argsOf s (ptrOf t))
 
 module _ {l ds rs cs sc : List ℕ} {g : Given} {m : Meter} {t : Ptr} {count : ℕ} (c : Counted l ds rs cs sc g m t count) (n d levels : ℕ) where
   abbrev e : Env

@@ -1,2 +1,3 @@
 pub mod Cycle
+pub mod Members
 pub mod Course

@@ -26,12 +26,7 @@ pub enum FieldFound {
 }
 
 // The declaration of a head that is a constant, and the count of arguments.
-fn constant_at<'a>(
-    library: &'a [u32],
-    decls: &'a [u32],
-    scratch: &'a [u32],
-    q: Ptr,
-) -> ConstantFound
+fn constant_at<'a>(library: &'a [u32], decls: &[u32], scratch: &'a [u32], q: Ptr) -> ConstantFound
     requires { ⌜ Reduced (now library) (now decls) (now scratch) q ⌝ }
     ensures { λ r. ⌜ ConstantAt (now (library .entry)) (now (decls .entry)) (now (scratch .entry)) q r ⌝ }
 {
@@ -48,7 +43,7 @@ fn constant_at<'a>(
 // Projection: "a constructor with an argument at parameters + index". The sum is taken in 64 bits, since an index is any u32.
 pub fn field_at<'a>(
     library: &'a [u32],
-    decls: &'a [u32],
+    decls: &[u32],
     scratch: &'a [u32],
     q: Ptr,
     index: u32,
@@ -70,7 +65,7 @@ pub fn field_at<'a>(
 }
 
 // Quotients: "Quot.mk with exactly 3 arguments", the third.
-pub fn quot_made<'a>(library: &'a [u32], decls: &'a [u32], scratch: &'a [u32], q: Ptr) -> FieldFound
+pub fn quot_made<'a>(library: &'a [u32], decls: &[u32], scratch: &'a [u32], q: Ptr) -> FieldFound
     requires { ⌜ Reduced (now library) (now decls) (now scratch) q ⌝ }
     ensures { λ r. ⌜ QuotMade (now (library .entry)) (now (decls .entry)) (now (scratch .entry)) q r ⌝ }
 {

@@ -1,0 +1,12 @@
+mod Answers
+mod Levels
+mod Loop
+mod InOrder
+mod ConstantRules
+mod Sides
+mod ProjNeeds
+mod QuotNeeds
+mod RecNeeds
+mod ArithTests
+mod ArithNeeds
+mod HeadNeeds
