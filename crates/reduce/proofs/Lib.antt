@@ -1,12 +1,12 @@
-mod Answers
-mod Levels
-mod Loop
-mod InOrder
-mod ConstantRules
-mod Sides
-mod ProjNeeds
-mod QuotNeeds
-mod RecNeeds
-mod ArithTests
-mod ArithNeeds
-mod HeadNeeds
+pub mod Answers
+pub mod Levels
+pub mod Loop
+pub mod InOrder
+pub mod ConstantRules
+pub mod Sides
+pub mod ProjNeeds
+pub mod QuotNeeds
+pub mod RecNeeds
+pub mod ArithTests
+pub mod ArithNeeds
+pub mod HeadNeeds
