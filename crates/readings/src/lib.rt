@@ -1,0 +1,1 @@
+// Proofs only, in specs/: each firing read out as the tree rule that it stands for. There is no code here.
