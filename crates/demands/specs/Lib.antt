@@ -1,1 +1,2 @@
 pub mod OnCall
+pub mod LeftAccepted
