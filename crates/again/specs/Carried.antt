@@ -13,7 +13,6 @@ use Rattle.rules.specs.Spines.{NoApp, no-var, no-sort, no-const, no-lam, no-pi,
 use Rattle.rules.specs.Firings.{Tally, tally, Result, opened, itself, a-number, a-constant, Gives, by-replacement, no-row, number-row, constant-row}
 use Rattle.rules.specs.Firings.{Due, NumberFits, opened-fits, itself-fits, number-fits, constant-fits, Pays}
 use Rattle.rules.specs.Refusals.{Demand, step, fitting, row, level, Asks, its-step, its-number, its-row}
-use Rattle.substitution.specs.Stores.{Ext}
 use Rattle.course.specs.Tries.{Try, End, Comes}
 use Rattle.promises.specs.Stores.{ext-due, Later, later-trans, later-comes, later-pays}
 use Rattle.again.specs.Embeds.{ren, renField, renRow, renCell, Embeds, row-at, bound-at, up-at, put-embeds, end-renamed, written-carried, row-due-carried}

@@ -5,19 +5,18 @@ use native.Mathlib.Omega.{arith}
 use mathlib.Core.Path.{_≡_, refl, sym, ap, ap₂, _∙_, subst}
 use mathlib.Core.List.{List, _++_}
 use mathlib.Core.Option.{some}
-use lib.ListN.{length, take, replicate}
-use Rattle.rules.specs.Rows.{Store, Cell, cellAt}
+use lib.ListN.{length, replicate}
+use Rattle.rules.specs.Rows.{Store, Cell}
 use Rattle.rules.specs.Declarations.{nth}
 use Rattle.rules.specs.Accepted.{Lent, IsRow, part, Accepted}
-use Rattle.rules.specs.Refusals.{Limits}
 use Rattle.rules.specs.Call as call
 use Rattle.rules.specs.Call.{limitsOf, Whnf, refuses, answers}
-use Rattle.course.specs.Eval.{Res, sideAt, eval}
+use Rattle.course.specs.Eval.{sideAt, eval}
 use Rattle.safety.specs.Lists.{nth-inside, some-same}
 use Rattle.safety.specs.Sane.{accepted-ready}
 use Rattle.safety.specs.Answers.{eval-answered, eval-refused}
 use Rattle.rows.specs.declared.Ptr.{Ptr}
-use Rattle.rows.specs.Words.{ptrOf, decode, wordsAt, storeOf, Held}
+use Rattle.rows.specs.Words.{ptrOf, decode, wordsAt, storeOf}
 use Rattle.rows.proofs.Store.{words-in-scratch, cell-is, held-length}
 use Rattle.rows.proofs.KeptRows.{cell-nth}
 use Rattle.tables.specs.Read.{HoldersOf}
@@ -26,9 +25,9 @@ use Rattle.state.specs.declared.Given.{Given}
 use Rattle.state.specs.declared.Meter.{Meter}
 use Rattle.state.specs.declared.Reduced.{Reduced}
 use Rattle.state.specs.declared.Reduced.the-variants.{To, Refused}
-use Rattle.state.specs.State.{tallyOf, limitsIn}
+use Rattle.state.specs.State.{tallyOf}
 use Rattle.cycle.specs.Cycle.{Asked, Ran, resAs, resBy}
-use Rattle.cycle.proofs.Standing.{Next, after-side}
+use Rattle.cycle.proofs.Standing.{after-side}
 use Rattle.cycle.proofs.Accepting.{accepted-asked}
 use Rattle.reduce.proofs.Sides.{ran-as}
 use Rattle.call.specs.Answers.{GivenBy, zeroedFrom}

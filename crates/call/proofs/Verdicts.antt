@@ -1,8 +1,6 @@
 -- A verdict known by its variant. Assumes nothing.
 use Prim.Native.Nat.{ℕ}
-use native.Mathlib.Omega.{arith}
-use mathlib.Core.Path.{_≡_, refl, sym, subst}
-use mathlib.Core.List.{List}
+use mathlib.Core.Path.{_≡_, refl, subst}
 use Rattle.rules.specs.Accepted.{Lent, Accepted, NotAccepted}
 use Rattle.rules.specs.Call as call
 use Rattle.rules.specs.Call.{Whnf, not-accepted}

@@ -5,14 +5,14 @@ use mathlib.Core.Path.{_≡_, refl}
 use mathlib.Core.List.{List, [], _∷_, map}
 use mathlib.Core.Option.{Option, none, some}
 use Rattle.rules.specs.Kinds.{sort, const, app, lam, pi, let′, proj, num}
-use Rattle.rules.specs.Rows.{Ptr, ptr, blank, Row, var, node, leaf, Store, grow}
+use Rattle.rules.specs.Rows.{Ptr, ptr, blank, var, node, leaf, Store, grow}
 use Rattle.rules.specs.Arithmetic.{add, sub, mul, div, mod′, beq, ble}
 use Rattle.rules.specs.Declarations.{Role, no-role, zero′, succ′, true′, false′, quot-mk, quot-lift, quot-ind, arith, Rule, plain, constructor}
 use Rattle.rules.specs.Declarations.{recursor, structure, Decl, Entry}
 use Rattle.rules.specs.Call.{Answer, term, refused}
 use Rattle.rules.specs.ReadOut.{Tree}
 use Rattle.rules.specs.ReadOut as T
-use Rattle.course.specs.Tables.{at, ap′, axiom′, of-form, Case, Seen, seen, expected}
+use Rattle.course.specs.Tables.{at, ap′, axiom′, of-form, Case, seen, expected}
 
 abbrev rec-of : ℕ → ℕ → List Rule → Option Ptr → Decl
 rec-of ps mi rs v = record { form = recursor (record { parameters = ps; motives = 0; minors = mi; indices = 0; rules = rs }); levels = 0; type = at 0; value = v; role = no-role }

@@ -4,8 +4,8 @@ use Prim.Native.Nat.{ℕ, zero, suc, _+_, _-_}
 use mathlib.Core.List.{List, [], _∷_}
 use mathlib.Core.Option.{Option, none, some}
 use lib.ListN.{length}
-use Rattle.rules.specs.Kinds.{Kind, app, const, num, Tag, plain, term, body, fields}
-use Rattle.rules.specs.Rows.{Ptr, ptr, blank, Row, var, node, leaf, Cell, Store, cell, cellAt, rowAt, bound, up, Got, got, put}
+use Rattle.rules.specs.Kinds.{app, const, num, Tag, plain, term, body, fields}
+use Rattle.rules.specs.Rows.{Ptr, ptr, blank, Row, var, node, leaf, Store, cell, cellAt, rowAt, bound, up, Got, got, put}
 use Rattle.rules.specs.Replacement.{count}
 use Rattle.rules.specs.Firings.{Result, opened, itself, a-number, a-constant}
 use Rattle.course.specs.Views.{Cmp, at-most, over, cmp, FitView, fits, no-fit, fitView}

@@ -4,7 +4,7 @@ use Prim.Native.Nat.{ℕ, zero, suc, _+_, _-_}
 use mathlib.Core.List.{List, [], _∷_, _++_}
 use mathlib.Core.Option.{Option, none, some}
 use lib.ListN.{length, drop}
-use Rattle.rules.specs.Kinds.{Kind, const, num, Tag, plain, term, body, fields}
+use Rattle.rules.specs.Kinds.{const, num, Tag, plain, term, body, fields}
 use Rattle.rules.specs.Rows.{Ptr, ptr, Row, var, node, leaf, Cell, Store, cellAt, rowAt, bound, up, grow, Got, got, put}
 use Rattle.rules.specs.Declarations.{Env}
 use Rattle.rules.specs.Replacement.{count}

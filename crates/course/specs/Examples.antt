@@ -4,13 +4,13 @@ use mathlib.Core.Path.{_≡_, refl}
 use mathlib.Core.List.{List, [], _∷_, map}
 use mathlib.Core.Option.{Option, none, some}
 use Rattle.rules.specs.Kinds.{sort, const, app, lam, let′, num}
-use Rattle.rules.specs.Rows.{Ptr, ptr, blank, Row, var, node, leaf, Store, grow}
+use Rattle.rules.specs.Rows.{ptr, blank, var, node, leaf, Store, grow}
 use Rattle.rules.specs.Arithmetic.{sub, mul}
 use Rattle.rules.specs.Declarations.{no-role, zero′, succ′, quot-mk, quot-lift, arith, constructor, recursor, plain, Decl, Entry}
 use Rattle.rules.specs.Call.{Answer, term, refused}
 use Rattle.rules.specs.ReadOut.{Tree}
 use Rattle.rules.specs.ReadOut as T
-use Rattle.course.specs.Tables.{at, ap′, axiom′, of-form, Case, Seen, seen, expected}
+use Rattle.course.specs.Tables.{at, ap′, axiom′, of-form, Case, seen, expected}
 
 -- 0 Quot.lift, 1 Quot.mk, 2 f, 3 zero, 4 succ, 5 sub, 6 the recursor of E11, 7 mul, 8 the definition of E8
 unfoldable pub decls : List Decl

@@ -1,10 +1,10 @@
 -- From the demands of the tries to those of the rules: the demand that a course of tries comes to is one that the rules' own course comes to.
 -- Holds for every store and every environment; nothing is assumed.
-use Prim.Native.Nat.{ℕ, zero, suc, _+_}
-use mathlib.Core.Path.{_≡_, refl, subst}
+use Prim.Native.Nat.{ℕ, _+_}
+use mathlib.Core.Path.{_≡_, refl}
 use mathlib.Core.List.{List, [], _∷_}
 use mathlib.Core.Option.{Option, none, some}
-use Rattle.rules.specs.Kinds.{Kind, sort, const, app, lam, pi, let′, proj, num}
+use Rattle.rules.specs.Kinds.{sort, const, app, lam, pi, let′, proj, num}
 use Rattle.rules.specs.Rows.{Ptr, Row, var, node, Cell, Store, rowAt, grow}
 use Rattle.rules.specs.Declarations.{Decl, Env, valueOf}
 use Rattle.rules.specs.Spines.{Spine}
@@ -16,10 +16,10 @@ use Rattle.rules.specs.Refusals.{Demand, row, RowDue, Meets, in-premise, in-fir
 use Rattle.rules.specs.Refusals.{number-row, first-number, second-number}
 use Rattle.rules.specs.Refusals as F
 use Rattle.course.specs.Tries.{Try, no-rule, fires, writes, reduces, with-it, _or-else_, lambda, variable, projection, quot, recursion}
-use Rattle.course.specs.Tries.{arithmetic, delta, constant, atRow, rules, End, missed, RunMeets, trying, paying, TryMeets, writing}
+use Rattle.course.specs.Tries.{arithmetic, delta, constant, atRow, rules, missed, RunMeets, trying, paying, TryMeets, writing}
 use Rattle.course.specs.Tries.{after-writing, too-deep, after-side}
 use Rattle.course.specs.Tries as Y
-use Rattle.course.specs.FromTries.{Understood, u-misses, u-wrote, u-side, quot-end, rec-end, quot-missed, rec-missed, is-constant, app-no-head}
+use Rattle.course.specs.FromTries.{Understood, u-misses, u-wrote, u-side, quot-end, rec-end, quot-missed, rec-missed, is-constant}
 use Rattle.course.specs.FromTries.{fires-of, rules-end, from-comes, from-runs}
 
 module _ (e : Env) where

@@ -1,16 +1,16 @@
 -- From the tries to the rules: whatever the tries say, the head rules of crates/rules say too, rule by rule.
 -- Holds for every store and every environment; nothing is assumed.
-use Prim.Native.Nat.{ℕ, zero, suc, _+_}
+use Prim.Native.Nat.{ℕ, _+_}
 use native.Mathlib.Omega.{arith}
 use lib.Dec.{eqb, leb}
 use mathlib.Core.Path.{_≡_, refl, sym, ap, _∙_, subst}
 use mathlib.Core.Bool.{Bool, true, false}
 use mathlib.Core.List.{List, [], _∷_}
 use mathlib.Core.Option.{Option, none, some}
-use Rattle.rules.specs.Kinds.{Kind, sort, const, app, lam, pi, let′, proj, num}
-use Rattle.rules.specs.Rows.{Ptr, Row, var, node, Cell, Store, rowAt, up, grow}
+use Rattle.rules.specs.Kinds.{sort, const, app, lam, pi, let′, proj, num}
+use Rattle.rules.specs.Rows.{Ptr, Row, var, node, Store, rowAt, grow}
 use Rattle.rules.specs.Declarations.{Decl, Env, declAt, valueOf, holder, true′, false′}
-use Rattle.rules.specs.Arithmetic.{Op, add, sub, mul, div, mod′, beq, ble, Computed, number, truth, compute}
+use Rattle.rules.specs.Arithmetic.{Op, add, sub, mul, div, mod′, beq, ble, truth, compute}
 use Rattle.rules.specs.Spines.{Spine, NoApp, head, through}
 use Rattle.rules.specs.Firings.{Tally, tally, Result, a-constant, Written}
 use Rattle.rules.specs.HeadTests.{given, provided, held, both, tried, Made, asConstructor, byRule, asNumber, fieldAt, quotParts, quotMade, recParts}

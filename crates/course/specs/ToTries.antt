@@ -1,25 +1,23 @@
 -- From the rules to the tries: whatever the head rules of crates/rules say, the tries say too, rule by rule.
 -- Holds for every store and every environment; nothing is assumed.
-use Prim.Native.Nat.{ℕ, zero, suc, _+_}
+use Prim.Native.Nat.{ℕ, suc}
 use mathlib.Core.Path.{_≡_, refl, sym, ap, _∙_, subst}
 use native.Mathlib.Omega.{arith}
-use mathlib.Core.List.{List, [], _∷_}
-use mathlib.Core.Option.{Option, none, some}
-use Rattle.rules.specs.Kinds.{Kind, const, lam, let′, proj}
-use Rattle.rules.specs.Rows.{Ptr, Row, var, node, Cell, Store, rowAt, up, grow}
-use Rattle.rules.specs.Declarations.{Decl, Env, declAt, valueOf}
+use mathlib.Core.List.{List, []}
+use Rattle.rules.specs.Rows.{Ptr, Row, Store}
+use Rattle.rules.specs.Declarations.{Decl, Env}
 use Rattle.rules.specs.Spines.{Spine}
-use Rattle.rules.specs.Firings.{Tally, tally, Result, Written, Pays}
+use Rattle.rules.specs.Firings.{Tally, tally, Result, Written}
 use Rattle.rules.specs.HeadTests.{Made}
 use Rattle.rules.specs.HeadRules.{Head, Constant, Constructs, NoRuleFor, a-sort, a-pi, a-num, a-lambda, Reduces, Side, ends, Fires, beta, zeta, field}
 use Rattle.rules.specs.HeadRules.{by-quot, by-recursor, by-arithmetic, by-delta, Stuck, no-rule-for, no-value, no-field, none-fires, Quot, is-made}
 use Rattle.rules.specs.HeadRules.{NoQuot, no-quot, not-made, Rec, by-rule, NoRec, no-recursor, no-constructor, Arith, computed, NoArith, no-operands}
 use Rattle.rules.specs.HeadRules.{no-first, no-second}
 use Rattle.rules.specs.HeadRules as H
-use Rattle.rules.specs.Refusals.{Demand, row, level, RowDue, Asks, Meets, in-premise, in-firing, SideMeets, its-level, Premise, structure, quot-major}
+use Rattle.rules.specs.Refusals.{Demand, row, Meets, in-premise, in-firing, SideMeets, its-level, Premise, structure, quot-major}
 use Rattle.rules.specs.Refusals.{rec-major, number-row, first-number, second-number}
 use Rattle.rules.specs.Refusals as F
-use Rattle.course.specs.Tries.{Try, no-rule, fires, writes, reduces, with-it, _or-else_, lambda, variable, projection, quot, recursion}
+use Rattle.course.specs.Tries.{Try, no-rule, fires, writes, reduces, _or-else_, lambda, variable, projection, quot, recursion}
 use Rattle.course.specs.Tries.{arithmetic, delta, constant, atRow, rules, End, missed, firing, Runs, Comes, misses, fires-now, wrote, side}
 use Rattle.course.specs.Tries.{RunMeets, trying, paying, TryMeets, writing, after-writing, too-deep, after-side}
 use Rattle.course.specs.Tries as Y

@@ -1,10 +1,10 @@
 -- Tests that keep what they found, so that a case of the evaluator has the premise of its rule at hand.
-use Prim.Native.Nat.{ℕ, suc, _+_, _≤_, _<_}
+use Prim.Native.Nat.{ℕ, _≤_, _<_}
 use native.Mathlib.Decide.{decLt}
 use native.Mathlib.Omega.{arith}
 use mathlib.Core.Path.{_≡_, refl}
 use Rattle.rules.specs.Maxima.{most-bound, most-height, most-number}
-use Rattle.rules.specs.Kinds.{Kind, sort, const, app, lam, pi, let′, proj, num}
+use Rattle.rules.specs.Kinds.{sort, const, app, lam, pi, let′, proj, num}
 use Rattle.rules.specs.Rows.{Ptr, Row, var, node, Cell}
 use Rattle.rules.specs.RowCheck.{Fits}
 use Rattle.rules.specs.Spines.{NoApp, no-var, no-sort, no-const, no-lam, no-pi, no-let, no-proj, no-num}

@@ -16,9 +16,9 @@ use Rattle.course.specs.Tries.{no-rule, fires, lambda}
 use Rattle.course.specs.Eval.{try}
 use Rattle.safety.specs.Lists.{none-some}
 use Rattle.safety.specs.Sane.{depthOf, declCount}
-use Rattle.safety.specs.Scope.{AllIn, and-in, BodyIn, RowIn, row-in, lambda-body-in, let-value-in, let-body-in, structure-in, ResultIn, opened-in}
+use Rattle.safety.specs.Scope.{AllIn, BodyIn, RowIn, row-in, lambda-body-in, let-value-in, let-body-in, structure-in, ResultIn, opened-in}
 use Rattle.safety.specs.Parts.{nth-in}
-use Rattle.ways.specs.Steps.{Step, final, stepOf, fireIn}
+use Rattle.ways.specs.Steps.{Step, final, fireIn}
 use Rattle.ways.specs.Spines.{headOf, argsOf}
 use Rattle.rows.specs.declared.Ptr.{Ptr}
 use Rattle.rows.specs.Words.{ptrOf, storeOf}

@@ -1,7 +1,7 @@
 -- The ways out of arithmetic: not tried; refused in either operand's reduction; either is no number; the outcome fires.
 -- Assumes what the member is given.
 use Prim.Native.Nat.{ℕ}
-use mathlib.Core.Path.{_≡_, refl, sym, ap, _∙_}
+use mathlib.Core.Path.{_≡_, sym, ap}
 use mathlib.Core.List.{List, []}
 use mathlib.Core.Option.{Option, none, some}
 use Rattle.rules.specs.Rows as rules
@@ -14,9 +14,9 @@ use Rattle.course.specs.Tries.{arithmetic}
 use Rattle.course.specs.Eval.{Ans, try, sideAt}
 use Rattle.safety.specs.Sane.{in-later}
 use Rattle.safety.specs.Parts.{outcome-in}
-use Rattle.ways.specs.Steps.{Step, stepOf, fireIn}
+use Rattle.ways.specs.Steps.{stepOf, fireIn}
 use Rattle.ways.specs.Spines.{argsOf}
-use Rattle.ways.specs.Ways.{Ended, arith-none, arith-first-refused, arith-no-first, arith-second-refused, arith-no-second, arith-fires}
+use Rattle.ways.specs.Ways.{arith-none, arith-first-refused, arith-no-first, arith-second-refused, arith-no-second, arith-fires}
 use Rattle.rows.specs.declared.Ptr.{Ptr}
 use Rattle.rows.specs.Words.{ptrOf, storeOf}
 use Rattle.tables.specs.Env.{envOf}

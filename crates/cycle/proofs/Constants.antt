@@ -1,23 +1,18 @@
 -- The rules of a constant in order: each is tried in the rows that the missed one before it left. Whatever the rules are, the first that does not miss answers.
 -- Assumes what the member is given.
 use Prim.Native.Nat.{ℕ}
-use native.Mathlib.Omega.{arith}
-use mathlib.Core.Path.{_≡_, refl, sym, ap, _∙_, subst}
+use mathlib.Core.Path.{_≡_, refl, sym, ap, _∙_}
 use mathlib.Core.List.{List}
-use lib.ListN.{length}
-use Rattle.rules.specs.Rows as rules
-use Rattle.rules.specs.Rows.{Store}
-use Rattle.rules.specs.Declarations.{Decl, Env, declAt}
-use Rattle.rules.specs.Firings.{Tally}
+use Rattle.rules.specs.Declarations.{Env}
 use Rattle.rules.specs.Refusals.{Limits}
-use Rattle.course.specs.Tries.{Try, _or-else_, quot, recursion, arithmetic, delta, constant}
-use Rattle.course.specs.Eval.{Ans, missed, firing, refuse, gone, Side, try, sideAt}
-use Rattle.substitution.specs.Stores.{Ext, scope-good}
+use Rattle.course.specs.Tries.{Try, _or-else_}
+use Rattle.course.specs.Eval.{Ans, missed, firing, refuse, gone, try, sideAt}
+use Rattle.substitution.specs.Stores.{scope-good}
 use Rattle.substitution.specs.Passing.{pass-formed}
 use Rattle.safety.specs.Sane.{depthOf, declCount}
 use Rattle.safety.specs.Safe.{Safe}
 use Rattle.promises.specs.Else.{andThen, try-else}
-use Rattle.ways.specs.Steps.{Step, fired, final, stopped, stepOf}
+use Rattle.ways.specs.Steps.{Step, stopped, stepOf}
 use Rattle.ways.specs.Spines.{argsOf, args-later}
 use Rattle.rows.specs.declared.Ptr.{Ptr}
 use Rattle.rows.specs.Words.{ptrOf, storeOf}
@@ -27,7 +22,7 @@ use Rattle.state.specs.declared.Meter.{Meter}
 use Rattle.state.specs.declared.Answer.{Answer}
 use Rattle.state.specs.declared.Answer.the-variants.{Term, Final, Refused}
 use Rattle.state.specs.State.{tallyOf, limitsIn, Left}
-use Rattle.cycle.specs.Cycle.{Stand, Counted, Passed, stepBy}
+use Rattle.cycle.specs.Cycle.{Stand, Counted}
 use Rattle.cycle.specs.Course.{step-missed, step-fired, step-stopped}
 use Rattle.cycle.proofs.Standing.{left-on, left-passed, limits-on, counted-on, stand-after-miss, after-miss}
 use Rattle.cycle.proofs.WaysOut.{left-as}

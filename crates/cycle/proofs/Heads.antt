@@ -1,19 +1,16 @@
 -- The rules at the head of a term, by the head's row; and the loop over firings, from one term to the next.
 -- Assumes what the member is given.
-use Prim.Native.Nat.{ℕ, suc, _+_, _-_, _≤_, _<_}
+use Prim.Native.Nat.{ℕ, suc, _+_, _-_}
 use native.Mathlib.Omega.{arith}
-use mathlib.Core.Path.{_≡_, refl, sym, ap, _∙_}
-use mathlib.Core.List.{List, [], _∷_}
-use mathlib.Core.Option.{some}
-use Rattle.rules.specs.Kinds.{sort, const, app, lam, pi, let′, proj, num}
+use mathlib.Core.Path.{_≡_, refl, ap}
+use mathlib.Core.List.{List}
+use Rattle.rules.specs.Kinds.{sort, const, lam, pi, let′, proj, num}
 use Rattle.rules.specs.Rows as rules
 use Rattle.rules.specs.Rows.{Row, var, node, Store, rowAt, up}
-use Rattle.rules.specs.RowCheck.{InScope}
 use Rattle.rules.specs.Declarations.{Env, declAt}
-use Rattle.rules.specs.Firings.{Tally, opened}
-use Rattle.rules.specs.Refusals.{Limits}
+use Rattle.rules.specs.Firings.{opened}
 use Rattle.course.specs.Tries.{Try, no-rule, fires, lambda, variable, projection, constant, atRow, rules}
-use Rattle.course.specs.Eval.{Res, ok, no, Side, try, atHead, loop, sideAt}
+use Rattle.course.specs.Eval.{sideAt}
 use Rattle.substitution.specs.Stores.{scope-good}
 use Rattle.substitution.specs.Passing.{pass-formed}
 use Rattle.safety.specs.Sane.{depthOf, declCount}

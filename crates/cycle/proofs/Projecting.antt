@@ -1,18 +1,17 @@
 -- The ways out of projection: refused in the structure's reduction, no field there, the field given.
 -- Assumes what the member is given.
 use Prim.Native.Nat.{ℕ}
-use mathlib.Core.Path.{_≡_, refl, sym, ap, _∙_}
+use mathlib.Core.Path.{_≡_, sym, ap, _∙_}
 use mathlib.Core.List.{List}
 use mathlib.Core.Option.{Option, none, some}
 use Rattle.rules.specs.Rows as rules
 use Rattle.rules.specs.RowCheck.{InScope}
 use Rattle.rules.specs.Firings.{itself}
 use Rattle.rules.specs.HeadTests.{fieldAt}
-use Rattle.course.specs.Tries.{projection}
 use Rattle.course.specs.Eval.{firing}
 use Rattle.safety.specs.Scope.{itself-in}
 use Rattle.safety.specs.Parts.{field-in}
-use Rattle.ways.specs.Steps.{Step, stepOf, fireIn}
+use Rattle.ways.specs.Steps.{stepOf, fireIn}
 use Rattle.ways.specs.Spines.{argsOf}
 use Rattle.ways.specs.Ways.{projection-refused, projection-missed, projection-fires}
 use Rattle.rows.specs.declared.Ptr.{Ptr}

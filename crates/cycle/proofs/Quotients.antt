@@ -1,6 +1,6 @@
 -- The ways out of Quot.lift and Quot.ind: no such role or too few arguments, refused in the major's reduction, no Quot.mk, the function given the element.
 -- Assumes what the member is given.
-use Prim.Native.Nat.{ℕ, suc, _≤_, _<_}
+use Prim.Native.Nat.{ℕ, suc, _≤_}
 use native.Mathlib.Omega as O
 use mathlib.Core.Path.{_≡_, refl, sym, ap, _∙_}
 use mathlib.Core.List.{List, _∷_}
@@ -11,14 +11,12 @@ use Rattle.rules.specs.RowCheck.{InScope}
 use Rattle.rules.specs.Arithmetic.{Op, add, sub, mul, div, mod′, beq, ble}
 use Rattle.rules.specs.Declarations.{Role, no-role, nat, zero′, succ′, true′, false′, quot-mk, quot-lift, quot-ind, arith, Decl, nth, declAt, roleCode}
 use Rattle.rules.specs.Firings.{itself}
-use Rattle.rules.specs.HeadTests.{given, QuotParts, quot-parts, quotPosition, quotParts, quotMade}
-use Rattle.course.specs.Tries.{quot}
+use Rattle.rules.specs.HeadTests.{given, quot-parts, quotPosition, quotParts, quotMade}
 use Rattle.course.specs.Eval.{firing}
-use Rattle.safety.specs.Lists.{none-some, nth-inside}
+use Rattle.safety.specs.Lists.{nth-inside}
 use Rattle.safety.specs.Sane.{in-later}
 use Rattle.safety.specs.Scope.{itself-in}
-use Rattle.safety.specs.Parts.{made-in}
-use Rattle.ways.specs.Steps.{Step, final, stepOf, fireIn}
+use Rattle.ways.specs.Steps.{stepOf, fireIn}
 use Rattle.ways.specs.Spines.{argsOf}
 use Rattle.ways.specs.Ways.{quot-none, quot-refused, quot-missed, quot-fires}
 use Rattle.rows.specs.declared.Ptr.{Ptr}
@@ -33,7 +31,7 @@ use Rattle.state.specs.State.{tallyOf, limitsIn, Left}
 use Rattle.cycle.specs.Cycle.{Counted, Ran, resBy}
 use Rattle.cycle.specs.Members.{quotient}
 use Rattle.cycle.proofs.Standing.{to-depth, nothing-passed}
-use Rattle.cycle.proofs.WaysOut.{refused-left, final-left, headRow, q-asked, grown-store, side-ended, same-arguments, major-arguments}
+use Rattle.cycle.proofs.WaysOut.{refused-left, final-left, headRow, grown-store, side-ended, same-arguments}
 use Rattle.cycle.proofs.WaysOut.{missed-after, fired-after}
 
 -- THE POSITION of the major, by the role's code

@@ -23,7 +23,7 @@ use Rattle.safety.specs.Lists.{none-some}
 use Rattle.safety.specs.Sane.{depthOf, declCount, Sane, sane-later, closed-in}
 use Rattle.safety.specs.Scope.{all-later, itself-in}
 use Rattle.safety.specs.Parts.{grow-pass, MadeIn, constructor-in, rec-in, RuledIn, by-rule-in}
-use Rattle.ways.specs.Steps.{Step, final, stepOf, fireIn}
+use Rattle.ways.specs.Steps.{final, stepOf, fireIn}
 use Rattle.ways.specs.Spines.{argsOf}
 use Rattle.ways.specs.Ways.{rec-none, rec-refused, rec-no-constructor, rec-rows-refused, rec-missed, rec-fires}
 use Rattle.rows.specs.declared.Ptr.{Ptr}

@@ -1,33 +1,31 @@
 -- What stands after a member of the cycle has answered: the next one is given all that the first was given, in the rows that are left.
 -- Assumes what a member is given.
-use Prim.Native.Nat.{ℕ, suc, _+_, _*_, _/_, _≤_, _<_}
+use Prim.Native.Nat.{ℕ, _+_, _*_, _/_, _≤_, _<_}
 use native.Mathlib.Nat.{le-refl}
 use native.Mathlib.Omega.{arith}
 use mathlib.Core.Path.{_≡_, refl, sym, ap, _∙_, subst}
 use mathlib.Core.List.{List}
-use mathlib.Core.Option.{Option, some}
+use mathlib.Core.Option.{some}
 use lib.ListN.{length, take}
 use lib.Seq.{take-take}
 use Rattle.rules.specs.Rows as rules
 use Rattle.rules.specs.Rows.{Store, got}
 use Rattle.rules.specs.RowCheck.{InScope}
 use Rattle.rules.specs.Declarations.{Env}
-use Rattle.rules.specs.Firings.{Tally}
-use Rattle.rules.specs.Refusals.{Limits, Within}
+use Rattle.rules.specs.Refusals.{Within}
 use Rattle.course.specs.Tries.{Try}
 use Rattle.course.specs.Charged as course
-use Rattle.course.specs.Eval.{Ans, missed, firing, try, sideAt, Res}
+use Rattle.course.specs.Eval.{Ans, try, sideAt, Res}
 use Rattle.substitution.specs.Stores.{Ext, scope-good}
 use Rattle.substitution.specs.Passing.{pass-formed}
 use Rattle.safety.specs.Sane.{depthOf, declCount, Sane, in-later}
 use Rattle.safety.specs.Safe.{Safe}
-use Rattle.safety.specs.Keeps.{Leaves}
 use Rattle.safety.specs.Leaves.{LeavesTerm, LeavesRows, side-leaves, miss-leaves, fire-leaves, fire-steps}
-use Rattle.ways.specs.Steps.{Step, fired, final, stepOf}
-use Rattle.ways.specs.Spines.{argsOf, args-later}
+use Rattle.ways.specs.Steps.{Step, stepOf}
+use Rattle.ways.specs.Spines.{args-later}
 use Rattle.rows.specs.declared.Ptr.{Ptr}
 use Rattle.rows.specs.declared.Out.the-variants.{Done}
-use Rattle.rows.specs.Words.{ptrOf, storeOf, Held}
+use Rattle.rows.specs.Words.{ptrOf, storeOf}
 use Rattle.rows.specs.Writes.{Grown, Wrote}
 use Rattle.rows.proofs.Store.{held-length}
 use Rattle.rows.proofs.InTurn.{grown-on, done-held, done-are-rows}
@@ -36,7 +34,7 @@ use Rattle.tables.specs.Env.{envOf, declOf, entryOf}
 use Rattle.state.specs.declared.Given.{Given}
 use Rattle.state.specs.declared.Meter.{Meter}
 use Rattle.state.specs.declared.Answer.{Answer}
-use Rattle.state.specs.declared.Answer.the-variants.{Term, Final, Refused}
+use Rattle.state.specs.declared.Answer.the-variants.{Term, Final}
 use Rattle.state.specs.declared.Reduced.{Reduced}
 use Rattle.state.specs.declared.Reduced.the-variants as reduced
 use Rattle.state.specs.State.{tallyOf, limitsIn, meterOf, Headed, Left}

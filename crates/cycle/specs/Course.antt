@@ -1,10 +1,10 @@
 -- What the members' proofs take from the evaluator, over stores alone: a side reduction's end, a firing paid row by row, and which answer of trying a step shows.
 -- Assumes a sane store and pointers in scope where it says so.
-use Prim.Native.Nat.{ℕ, zero, suc, _+_, _-_, _≤_, _<_}
+use Prim.Native.Nat.{ℕ, zero, suc, _+_, _≤_, _<_}
 use native.Mathlib.Omega.{arith}
-use mathlib.Core.Path.{_≡_, refl, sym, ap, _∙_, subst}
-use mathlib.Core.List.{List, []}
-use mathlib.Core.Option.{Option, none, some}
+use mathlib.Core.Path.{_≡_, refl, sym, ap, _∙_}
+use mathlib.Core.List.{List}
+use mathlib.Core.Option.{Option}
 use Rattle.rules.specs.Rows.{Ptr, Store, rowAt}
 use Rattle.rules.specs.RowCheck.{InScope}
 use Rattle.rules.specs.Declarations.{Env}
@@ -14,7 +14,7 @@ use Rattle.course.specs.Eval.{Res, ok, no, lost, Ans, missed, firing, refuse, g
 use Rattle.substitution.specs.Stores.{scope-good}
 use Rattle.substitution.specs.Passing.{pass-formed}
 use Rattle.safety.specs.Sane.{depthOf, declCount, Sane}
-use Rattle.safety.specs.Scope.{AllIn, none-in, SpineIn, spine-in, ResultIn, result-good}
+use Rattle.safety.specs.Scope.{none-in, SpineIn, spine-in, ResultIn, result-good}
 use Rattle.safety.specs.NeverLost.{Found, found, due-found}
 use Rattle.ways.specs.Steps.{Step, fired, final, stopped, adrift, paidStep, stepOf, fireIn, fire-in}
 use Rattle.ways.specs.Spines.{headOf, argsOf, spine-is, spine-of}

@@ -1,21 +1,21 @@
 -- The words that an answered call leaves are accepted again, as the same environment and the grown store, with the answer for the term: "every new row
 -- passing the row check". Assumes accepted words, and nothing else.
-use Prim.Native.Nat.{ℕ, zero, suc, _+_, _*_, _-_, _/_, _%_, _≤_, _<_}
+use Prim.Native.Nat.{ℕ, suc, _+_, _*_, _-_, _%_, _≤_, _<_}
 use native.Mathlib.Omega.{arith}
 use mathlib.Core.Path.{_≡_, refl, sym, ap, _∙_, subst}
 use mathlib.Core.Logic.{⊎-elim}
-use mathlib.Core.List.{List, [], _∷_, _++_}
+use mathlib.Core.List.{List, _++_}
 use mathlib.Core.Option.{some}
 use lib.ListN.{length, getD, take, drop, length-take, length-drop}
-use Rattle.rules.specs.Rows.{Ptr, Cell, Store, cellAt}
-use Rattle.rules.specs.RowCheck.{AllPass, Passes, InScope}
-use Rattle.rules.specs.Declarations.{Rule, Recursor, Form, plain, constructor, recursor, structure, Decl, Entry, Env, nth, declAt}
+use Rattle.rules.specs.Rows.{Ptr, Cell, Store}
+use Rattle.rules.specs.RowCheck.{Passes}
+use Rattle.rules.specs.Declarations.{Form, Decl, Entry, Env, nth}
 use Rattle.rules.specs.Accepted.{Lent, IsRow, var-row, sort-row, const-row, app-row, lam-row, pi-row, let-row, proj-row, num-row, part}
 use Rattle.rules.specs.Accepted.{Closed, FormOk, plain-ok, constructor-ok, recursor-ok, structure-ok, DeclOk, EntryOk, Sizes, libraryRows, Accepted}
-use Rattle.rules.specs.Call.{Left, limitsOf}
+use Rattle.rules.specs.Call.{Left}
 use Rattle.substitution.specs.Stores.{Ext, ext-length, ext-cell, no-cell}
 use Rattle.safety.specs.Lists.{nth-inside, nth-append, some-same, nth-there}
-use Rattle.safety.specs.Sane.{declCount, in-later}
+use Rattle.safety.specs.Sane.{in-later}
 use Rattle.rows.proofs.Parts.{lt-or-ge, part-of-take, part-same, part-left, part-right}
 use Rattle.demands.specs.OnCall.{TermHolds}
 

@@ -2,15 +2,14 @@
 -- Assumes accepted words, and nothing else.
 use Prim.Native.Nat.{ℕ, _+_, _-_, _≤_}
 use native.Mathlib.Omega.{arith}
-use mathlib.Core.Path.{_≡_, refl, sym, ap, _∙_, subst}
+use mathlib.Core.Path.{_≡_, sym, ap, _∙_, subst}
 use Rattle.rules.specs.Rows.{Ptr, Store}
 use lib.ListN.{length}
 use Rattle.rules.specs.RowCheck.{AllPass, InScope}
 use Rattle.rules.specs.Declarations.{Env}
 use Rattle.rules.specs.Accepted.{Lent, Accepted}
-use Rattle.rules.specs.Firings.{Tally, tally}
 use Rattle.rules.specs.HeadRules.{final}
-use Rattle.rules.specs.Refusals.{Limits, Within, Answered}
+use Rattle.rules.specs.Refusals.{Answered}
 use Rattle.rules.specs.Call.{Answer, term, Left, limitsOf, Grown, Whnf, not-accepted, refuses, answers}
 use Rattle.substitution.specs.Stores.{Ext}
 use Rattle.promises.specs.Larger.{AtLeast}
@@ -18,7 +17,7 @@ use Rattle.safety.specs.Sane.{declCount, accepted-ready}
 use Rattle.safety.specs.Answers.{answers-same, never-both, larger-budgets, untouched, new-rows-pass, accepted-in-scope}
 use Rattle.safety.specs.Unique.{accepted-same}
 use Rattle.safety.specs.Unique as unique
-use Rattle.again.specs.Again.{AnsweredAgain, room-again}
+use Rattle.again.specs.Again.{room-again}
 use Rattle.again.specs.OnCall.{call-again}
 
 -- where the rules answer a term, the call does

@@ -1,18 +1,18 @@
 -- How a firing ends: from what was written to the answer, on plain values.
 -- Assumes nothing.
-use Prim.Native.Nat.{ℕ, suc, _+_, _*_, _-_, _/_, _≤_, _<_}
+use Prim.Native.Nat.{ℕ, _+_, _-_, _≤_, _<_}
 use native.Mathlib.Numerals.{add-one}
 use native.Mathlib.Omega.{arith}
 use mathlib.Core.Path.{_≡_, refl, sym, ap, _∙_, subst}
-use mathlib.Core.List.{List, []}
-use mathlib.Core.Option.{Option, none, some}
-use lib.ListN.{length, take, drop, length-drop}
+use mathlib.Core.List.{List}
+use mathlib.Core.Option.{none, some}
+use lib.ListN.{length, drop, length-drop}
 use lib.Seq.{take-all}
 use Rattle.rules.specs.Rows as rules
-use Rattle.rules.specs.Rows.{Store, Got, got}
+use Rattle.rules.specs.Rows.{Store}
 use Rattle.rules.specs.Firings.{Tally, tally, Result, itself}
 use Rattle.rules.specs.Refusals.{Limits}
-use Rattle.course.specs.Views.{Cmp, at-most, over, cmp, NumberView, in-range, too-big, numberView}
+use Rattle.course.specs.Views.{Cmp, at-most, over, cmp, numberView}
 use Rattle.course.specs.Charged as course
 use Rattle.course.specs.Charged.{joinIn, giveIn, dueIn}
 use Rattle.ways.specs.Steps.{Step, fired, stopped, outStep, fireInOn, fireIn}
@@ -22,11 +22,10 @@ use Rattle.rows.specs.declared.Out.{Out}
 use Rattle.rows.specs.declared.Out.the-variants.{Done, Refused}
 use Rattle.rows.specs.Words.{ptrOf, storeOf}
 use Rattle.rows.specs.Writes.{outOf, Grown, Wrote}
-use Rattle.state.specs.declared.Given.{Given}
 use Rattle.state.specs.declared.Meter.{Meter}
 use Rattle.state.specs.declared.Answer.{Answer}
 use Rattle.state.specs.declared.Answer.the-variants as answer
-use Rattle.state.specs.State.{tallyOf, limitsIn, stepAs, meterOf, Left}
+use Rattle.state.specs.State.{Left}
 use Rattle.spine.specs.Walks.{runIn}
 
 pub none-some : {A : Type 0} {x : A} → none ≡ some x → ⊥

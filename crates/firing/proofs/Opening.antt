@@ -1,33 +1,33 @@
 -- Beta and let: from what replacement wrote to the arguments applied after it.
 -- Assumes nothing.
-use Prim.Native.Nat.{ℕ, zero, suc, _+_, _*_, _/_, _≤_, _<_}
+use Prim.Native.Nat.{ℕ, _+_, _*_, _/_, _≤_, _<_}
 use native.Mathlib.Nat.{le-refl}
 use native.Mathlib.Omega.{arith}
 use mathlib.Core.Path.{_≡_, refl, sym, ap, _∙_, subst}
-use mathlib.Core.List.{List, []}
-use mathlib.Core.Option.{Option, none, some}
+use mathlib.Core.List.{List}
+use mathlib.Core.Option.{some}
 use lib.ListN.{length, take, drop}
 use lib.Seq.{take-take}
 use Rattle.rules.specs.Rows as rules
-use Rattle.rules.specs.Rows.{Store, Got, got, cellAt}
-use Rattle.rules.specs.RowCheck.{AllPass, InScope}
-use Rattle.rules.specs.Firings.{Tally, tally, opened}
+use Rattle.rules.specs.Rows.{Store, got, cellAt}
+use Rattle.rules.specs.RowCheck.{AllPass}
+use Rattle.rules.specs.Firings.{Tally, opened}
 use Rattle.rules.specs.Refusals.{Limits}
 use Rattle.course.specs.Views.{Cmp, at-most, over, cmp, numberView}
 use Rattle.course.specs.Charged as course
 use Rattle.course.specs.Charged.{and-on, joinIn, replaceIn, giveIn, dueIn}
-use Rattle.substitution.specs.Stores.{Good, scope-good, Ext}
+use Rattle.substitution.specs.Stores.{scope-good, Ext}
 use Rattle.substitution.specs.Passing.{pass-formed}
 use Rattle.substitution.specs.Existence.{some-good}
 use Rattle.safety.specs.Sane.{in-later}
-use Rattle.ways.specs.Steps.{Step, stopped, outStep, fireInOn, fireIn}
+use Rattle.ways.specs.Steps.{Step, outStep, fireInOn, fireIn}
 use Rattle.ways.specs.Spines.{argsOf, args-later}
 use Rattle.rows.specs.declared.Ptr.{Ptr}
 use Rattle.rows.specs.declared.Out.{Out}
 use Rattle.rows.specs.declared.Out.the-variants.{Done, Refused}
-use Rattle.rows.specs.Words.{ptrOf, storeOf, Held}
-use Rattle.rows.specs.Writes.{outOf, Grown, Wrote, AreRows}
-use Rattle.rows.proofs.InTurn.{grown-on, done-held, done-says, done-are-rows}
+use Rattle.rows.specs.Words.{ptrOf, storeOf}
+use Rattle.rows.specs.Writes.{outOf, Wrote}
+use Rattle.rows.proofs.InTurn.{grown-on, done-held, done-are-rows}
 use Rattle.replace.specs.declared.Sub.{Sub}
 use Rattle.replace.specs.Replaced.{PtrReady, Replaced}
 use Rattle.replace.proofs.Later.{held-room}
@@ -36,7 +36,7 @@ use Rattle.state.specs.declared.Given.{Given}
 use Rattle.state.specs.declared.Meter.{Meter}
 use Rattle.state.specs.declared.Answer.{Answer}
 use Rattle.state.specs.declared.Answer.the-variants as answer
-use Rattle.state.specs.State.{tallyOf, limitsIn, Used, Headed, Left}
+use Rattle.state.specs.State.{tallyOf, limitsIn, Headed, Left}
 use Rattle.firing.specs.Fires.{Opens}
 use Rattle.firing.proofs.Ends.{none-some, left-as}
 

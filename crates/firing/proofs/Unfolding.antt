@@ -5,14 +5,14 @@ use native.Mathlib.Nat.{le-refl}
 use native.Mathlib.Numerals.{add-one}
 use native.Mathlib.Omega.{arith}
 use mathlib.Core.Path.{_≡_, refl, sym, ap, _∙_, subst}
-use mathlib.Core.Bool.{Bool, true, false}
+use mathlib.Core.Bool.{Bool}
 use mathlib.Core.List.{List, []}
 use mathlib.Core.Option.{Option, none, some}
 use borrow.Author.Tests.{eq-eqb, ne-eqb}
 use lib.Dec.{eqb}
 use lib.ListN.{length}
 use Rattle.rules.specs.Rows as rules
-use Rattle.rules.specs.Rows.{Store, up, upOn, cellAt}
+use Rattle.rules.specs.Rows.{Store, up, cellAt}
 use Rattle.rules.specs.Declarations.{valueOf}
 use Rattle.rules.specs.Firings.{itself}
 use Rattle.rules.specs.Refusals.{Limits}
@@ -27,7 +27,6 @@ use Rattle.tables.specs.declared.ValueFound.{ValueFound}
 use Rattle.tables.specs.declared.ValueFound.the-variants as found-value
 use Rattle.tables.specs.Env.{envOf}
 use Rattle.tables.specs.Read.{foundValue, ValueOf}
-use Rattle.state.specs.declared.Given.{Given}
 use Rattle.state.specs.declared.Meter.{Meter}
 use Rattle.state.specs.declared.Answer.{Answer}
 use Rattle.state.specs.declared.Answer.the-variants as answer

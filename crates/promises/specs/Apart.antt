@@ -1,6 +1,6 @@
 -- Never both: a course that ends within the limits comes to no demand that fails them. It holds for all stores. The demand has at least the depth
 -- of the course that ended: with less, it may be for a level.
-use Prim.Native.Nat.{ℕ, _+_, _≤_, _<_}
+use Prim.Native.Nat.{ℕ, _≤_, _<_}
 use native.Mathlib.Omega.{arith}
 use mathlib.Core.Path.{_≡_, sym, ap, _∙_, subst}
 use mathlib.Core.List.{List, [], _∷_, _++_, append-cancel-left}

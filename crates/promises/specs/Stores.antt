@@ -1,5 +1,5 @@
 -- Stores only grow, and so do tallies: whatever is written stands after what stood. It holds for all stores.
-use Prim.Native.Nat.{ℕ, _+_, _≤_}
+use Prim.Native.Nat.{ℕ, _≤_}
 use native.Mathlib.Omega.{arith}
 use native.Mathlib.Nat.{le-refl, le-trans}
 use mathlib.Core.Path.{_≡_, sym, ap, _∙_, subst}

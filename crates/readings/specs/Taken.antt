@@ -1,6 +1,6 @@
 -- What a head rule picks out of arguments, read out: the same pick out of their trees. And the head's row by what a test finds in it.
 -- Assumes good pointers with their trees (`ReadAll`), and of a row what it reads as.
-use Prim.Native.Nat.{ℕ, zero, suc, _+_}
+use Prim.Native.Nat.{ℕ, zero, suc}
 use mathlib.Core.Path.{_≡_, refl, sym, ap, _∙_}
 use mathlib.Core.List.{List, [], _∷_, _++_}
 use mathlib.Core.Option.{some}

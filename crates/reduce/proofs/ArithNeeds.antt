@@ -14,14 +14,11 @@ use Rattle.rules.specs.Accepted.{part}
 use Rattle.rules.specs.Arithmetic.{Op, compute}
 use Rattle.rules.specs.Declarations.{Decl, Env, nth, declAt, opCode, roleCode}
 use Rattle.rules.specs.HeadTests.{operands, operands-of, asNumber}
-use Rattle.course.specs.Eval.{Res}
 use Rattle.safety.specs.Lists.{nth-there, some-same}
 use Rattle.ways.specs.Spines.{argsOf}
 use Rattle.rows.specs.declared.Ptr.{Ptr}
 use Rattle.rows.specs.Words.{ptrOf, storeOf, whole}
-use Rattle.spine.specs.Walks.{Walks, Argument}
-use Rattle.spine.specs.Walks as spine
-use Rattle.spine.proofs.ForCallers.{scope-at, may-walk, may-ask, arguments-in-scope, argument-is}
+use Rattle.spine.specs.Walks.{Argument}
 use Rattle.tables.specs.Env.{envOf}
 use Rattle.tables.specs.Read.{declRead}
 use Rattle.tables.specs.ReadLaws.{role-code-is}
@@ -48,31 +45,11 @@ use Rattle.cycle.proofs.Recursing.{holders-known}
 use Rattle.cycle.proofs.WaysOut.{headRow, q-asked, t-counted, same-arguments}
 use Rattle.cycle.proofs.Computing.{not-computed, first-stops, first-no-number, second-stops, second-no-number, computes}
 use Rattle.reduce.specs.Members.{answerOf, isTried}
+use Rattle.reduce.proofs.Sides.{ran-as, nth-taken, taken-is, taken-asked}
 use Rattle.reduce.proofs.ArithTests.{Operation, operation-codes, tried-operation, not-tried, outcome-comes, truth-held}
-
--- AN ARGUMENT OF THE TERM
-module _ {l ds rs cs sc : List ℕ} {g : Given} {m : Meter} {t : Ptr} {count : ℕ} (c : Counted l ds rs cs sc g m t count) where
-  pub may-ask-argument : spine.Counted l sc t count
-  may-ask-argument =
-      let s = c .asked .stand in may-ask l sc (m .mark) (g .nlib) _ (g .depth) (s .held) (s .sane .pass) t (c .asked .scope) (s .small) count (c .counted)
-
-  nth-scope : {x : rules.Ptr} (i : ℕ) → nth (argsOf (storeOf l sc (m .mark)) (ptrOf t)) i ≡ some x → InScope (storeOf l sc (m .mark)) (g .depth) x
-  nth-scope i q =
-      let s = c .asked .stand in scope-at (arguments-in-scope l sc (m .mark) (g .nlib) _ (g .depth) (s .held) (s .sane .pass) t (c .asked .scope)) i q
-
-  module _ {i : ℕ} {x : Ptr} (a : Argument (whole l sc) (ptrOf t) count i x) where
-    pub argument-nth : nth (argsOf (storeOf l sc (m .mark)) (ptrOf t)) i ≡ some (ptrOf x)
-    argument-nth =
-        let s = c .asked .stand in argument-is l sc (m .mark) (g .nlib) _ (g .depth) (s .held) (s .sane .pass) t (c .asked .scope) count i x (c .counted) a
-
-    pub argument-asked : Asked l ds rs cs sc g m x
-    argument-asked = record { stand = c .asked .stand; scope = nth-scope i argument-nth }
 
 -- A REDUCED OPERAND, read as a number
 module _ {l ds rs cs sc : List ℕ} {g : Given} {m : Meter} {q : Ptr} (a : Asked l ds rs cs sc g m q) where
-  pub may-read : Walks l sc q
-  may-read = let s = a .stand in may-walk l sc (m .mark) (g .nlib) _ (g .depth) (s .held) (s .sane .pass) q (a .scope) (s .small)
-
   used : Used l sc (g .nlib) (m .mark)
   used = let s = a .stand in record { held = s .held; words = s .words; declarations = _; pass = s .sane .pass }
 
@@ -82,10 +59,6 @@ module _ {l ds rs cs sc : List ℕ} {g : Given} {m : Meter} {q : Ptr} (a : Asked
 
   pub may-fire : MayFire l sc g m
   may-fire = record { used = used; metered = a .stand .metered; budget = a .stand .budget }
-
--- A SIDE REDUCTION'S ANSWER, by its pattern
-pub ran-as : {l sc : List ℕ} {m : Meter} {r r′ : Reduced} {sc′ : List ℕ} {res : Res} → Ran l sc m r sc′ res → r ≡ r′ → Ran l sc m r′ sc′ res
-ran-as {l} {sc} {m} {r} {r′} {sc′} {res} k q = subst (λ (o : Reduced). Ran l sc m o sc′ res) q k
 
 -- THE CALL: its arguments, and what is promised of its answer
 
@@ -203,7 +176,7 @@ pub record FirstNumber (k : Call) (role : ℕ) (x : Operand) (a : ℕ) : Type 0 
 
 module _ {k : Call} {role : ℕ} {x : Ptr} (first : First k role x) where
   pub first-asked : AskedIn k (k .scratch) (k .m) x
-  first-asked = argument-asked (first .trying .counted) (first .argument)
+  first-asked = taken-asked (first .trying .counted) (first .argument)
 
   -- with whatever stands second
   operands-with : {y : rules.Ptr} → nth (args k (k .scratch) (k .m)) 1 ≡ some y →
@@ -211,7 +184,7 @@ module _ {k : Call} {role : ℕ} {x : Ptr} (first : First k role x) where
   operands-with q =
       let c = first .trying .counted in
       let o = first .trying .operation in
-      two-operands (Here k) (D k) (args k (k .scratch) (k .m)) (o .of) (o .tries) (c .counted ∙ first .trying .two) (argument-nth c (first .argument)) q
+      two-operands (Here k) (D k) (args k (k .scratch) (k .m)) (o .of) (o .tries) (c .counted ∙ first .trying .two) (taken-is c (first .argument)) q
 
   -- the second, which is there before it is read
   unread : Ptr
@@ -228,7 +201,7 @@ module _ {k : Call} {role : ℕ} {x : Ptr} (first : First k role x) where
       Promised k o sc₁
   first-refused {sc₁ = sc₁} ran is q =
       subst (λ (o : Answer). Promised k o sc₁) (sym (q ∙ ap answerOf is))
-      (first-stops (first .trying .counted) (k .nesting) (k .declaration) {y = unread} (operands-with unread-second) (first-asked .scope) (ran-as ran is))
+      (first-stops (first .trying .counted) (k .nesting) (k .declaration) {y = unread} (operands-with unread-second) (first-asked .scope) (ran-as is ran))
 
 module _ {k : Call} {role : ℕ} {x : Operand} (done : FirstDone k role x) where
   abbrev start : First k role (x .read)
@@ -267,23 +240,23 @@ module _ {k : Call} {role : ℕ} {x : Operand} {a : ℕ} {y : Ptr} (second : Sec
   start₁ = done₁ .first
 
   pub second-asked : AskedIn k (x .scratch) (x .m) y
-  second-asked = argument-asked (counted-on done₁) (second .argument)
+  second-asked = taken-asked (counted-on done₁) (second .argument)
 
   -- it stood second before the first was reduced, too
   second-nth : nth (args k (k .scratch) (k .m)) 1 ≡ some (ptrOf y)
   second-nth =
       ap (λ (xs : List rules.Ptr). nth xs 1) (sym (same-arguments (start₁ .trying .counted) (k .nesting) (first-asked start₁ .scope) (done₁ .ran)))
-      ∙ argument-nth (counted-on done₁) (second .argument)
+      ∙ taken-is (counted-on done₁) (second .argument)
 
   second-scope : InScope (storeOf (k .library) (k .scratch) (k .m .mark)) (k .g .depth) (ptrOf y)
-  second-scope = nth-scope (start₁ .trying .counted) 1 second-nth
+  second-scope = nth-taken (start₁ .trying .counted) 1 second-nth
 
   pub second-refused : {r : Reduced} {n : ℕ} {o : Answer} {sc₂ : List ℕ} → SideRan k (x .scratch) (x .m) y r sc₂ → r ≡ Refused n → o ≡ answerOf r →
       Promised k o sc₂
   second-refused {sc₂ = sc₂} ran is q =
       subst (λ (o : Answer). Promised k o sc₂) (sym (q ∙ ap answerOf is))
       (second-stops (start₁ .trying .counted) (k .nesting) (k .declaration) (operands-with start₁ second-nth) (first-asked start₁ .scope) (done₁ .ran)
-      (second .first .number) second-scope (ran-as ran is))
+      (second .first .number) second-scope (ran-as is ran))
 
 module _ {k : Call} {role : ℕ} {x : Operand} {a : ℕ} {y : Operand} (done : SecondDone k role x a y) where
   abbrev begun : First k role (x .read)

@@ -7,15 +7,15 @@ use mathlib.Core.List.{List}
 use lib.ListN.{length, drop}
 use Rattle.rules.specs.Kinds.{const, lam, let′, proj}
 use Rattle.rules.specs.Rows as rules
-use Rattle.rules.specs.Rows.{Row, var, node, blank, Store, cellAt, rowAt, up, upOn}
-use Rattle.rules.specs.RowCheck.{InScope, InRange, const-in}
+use Rattle.rules.specs.Rows.{var, node, blank, Store, cellAt, rowAt, up, upOn}
+use Rattle.rules.specs.RowCheck.{InScope, const-in}
 use Rattle.rules.specs.Declarations.{Env}
 use Rattle.rules.specs.Firings.{opened}
 use Rattle.course.specs.Tries.{projection}
 use Rattle.substitution.specs.Passing.{Worded, node-worded}
-use Rattle.safety.specs.Sane.{depthOf, declCount}
+use Rattle.safety.specs.Sane.{depthOf}
 use Rattle.safety.specs.Scope.{let-value-in}
-use Rattle.ways.specs.Steps.{Step, fireIn}
+use Rattle.ways.specs.Steps.{fireIn}
 use Rattle.ways.specs.Spines.{headOf, argsOf}
 use Rattle.rows.specs.declared.Ptr.{Ptr}
 use Rattle.rows.specs.declared.Shape.{Shape}

@@ -1,10 +1,9 @@
 -- A side reduction at each count of levels: none left is 6, and one more level is the loop over firings with one less.
 -- Assumes nothing.
-use Prim.Native.Nat.{ℕ, suc, _-_, _*_, _≤_}
+use Prim.Native.Nat.{ℕ, suc, _-_}
 use native.Mathlib.Omega.{arith}
-use mathlib.Core.Path.{_≡_, refl, sym, ap, _∙_, subst}
+use mathlib.Core.Path.{_≡_, refl, sym, ap, subst}
 use mathlib.Core.List.{List}
-use lib.ListN.{length}
 use Rattle.course.specs.Eval.{sideAt}
 use Rattle.safety.specs.Lists.{none-some}
 use Rattle.rows.specs.declared.Ptr.{Ptr}

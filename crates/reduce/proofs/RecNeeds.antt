@@ -7,7 +7,6 @@ use mathlib.Core.Path.{_≡_, refl, sym, ap, _∙_, subst}
 use mathlib.Core.List.{List}
 use mathlib.Core.Option.{Option, none, some}
 use lib.ListN.{length}
-use Rattle.rules.specs.Rows as rules
 use Rattle.rules.specs.Rows.{Store}
 use Rattle.rules.specs.RowCheck.{InScope}
 use Rattle.rules.specs.Accepted.{part}
@@ -22,7 +21,6 @@ use Rattle.rows.specs.declared.Ptr.{Ptr}
 use Rattle.rows.specs.Words.{ptrOf, storeOf, whole}
 use Rattle.spine.specs.declared.Spined.{Spined}
 use Rattle.spine.specs.Walks as spine
-use Rattle.spine.proofs.ForCallers.{may-ask, argument-is, argument-scope}
 use Rattle.tables.specs.declared.Decl.{Decl}
 use Rattle.tables.specs.Records.{recordsFrom}
 use Rattle.tables.specs.Env.{ruleOf, envOf}
@@ -46,6 +44,7 @@ use Rattle.cycle.proofs.WaysOut.{left-as, q-asked, t-counted, same-arguments}
 use Rattle.cycle.proofs.Tests.{other-levels, not-a-recursor, no-major, the-major}
 use Rattle.cycle.proofs.Recursing.{holders-known, rec-misses, rec-stops, no-constructor, rows-stop, rule-missing, rule-fires, made-counted, rule-values}
 use Rattle.reduce.specs.Members.{answerOf}
+use Rattle.reduce.proofs.Sides.{ran-as, handed-up, taken-is, taken-scope, taken-asked}
 
 -- WHAT A RECURSOR'S WORDS SAY, as the code adds them up
 
@@ -104,12 +103,6 @@ module _ {l ds rs cs sc : List ℕ} {g : Given} {m : Meter} {t : Ptr} {count d :
         rec-misses (o .counted) n d levels
         (no-major said levels _ (same-levels ∙ q) (same-recursor k) (omega (arith, o .counted .counted)))
 
-  -- the major may be read
-  pub may-read : spine.Counted l sc t count
-  may-read =
-      let s = o .counted .asked .stand in
-      may-ask l sc (m .mark) (g .nlib) _ (g .depth) (s .held) (s .sane .pass) t (o .counted .asked .scope) (s .small) count (o .counted .counted)
-
 -- THE MAJOR p WAS READ, of a recursor whose count of levels is right
 
 pub record Majored (l ds rs cs sc : List ℕ) (g : Given) (m : Meter) (t : Ptr) (count d levels : ℕ) (x : Decl) (p : Ptr) : Type 0 where
@@ -126,24 +119,18 @@ module _ {l ds rs cs sc : List ℕ} {g : Given} {m : Meter} {t : Ptr} {count d l
 
   the-parts : recParts (said (o .opened)) levels (argsOf (storeOf l sc (m .mark)) (ptrOf t)) ≡ some (rec-parts (recursorIn rs x) (ptrOf p))
   the-parts =
-      let s = c .asked .stand in
-      the-major (said (o .opened)) levels _ (same-levels (o .opened) ∙ o .levelled) (same-recursor (o .opened) (o .kind))
-      (argument-is l sc (m .mark) (g .nlib) _ (g .depth) (s .held) (s .sane .pass) t (c .asked .scope) count (positionOf x) p (c .counted) (o .major))
+      the-major (said (o .opened)) levels _ (same-levels (o .opened) ∙ o .levelled) (same-recursor (o .opened) (o .kind)) (taken-is c (o .major))
 
   in-scope : InScope (storeOf l sc (m .mark)) (g .depth) (ptrOf p)
-  in-scope =
-      let s = c .asked .stand in
-      argument-scope l sc (m .mark) (g .nlib) _ (g .depth) (s .held) (s .sane .pass) t (c .asked .scope) count (positionOf x) p (c .counted) (o .major)
+  in-scope = taken-scope c (o .major)
 
   pub major-asked : Asked l ds rs cs sc g m p
-  major-asked = record { stand = c .asked .stand; scope = in-scope }
+  major-asked = taken-asked c (o .major)
 
   pub major-stops : (n : ℕ) {r : Reduced} {sc₁ : List ℕ} {k : ℕ} {a : Answer} →
       Ran l sc m r sc₁ (resBy l ds rs cs sc g m n (ptrOf p)) → r ≡ Refused k → a ≡ answerOf r →
       Left l sc m a sc₁ (recursed l ds rs cs sc g m t n d levels)
-  major-stops n {sc₁ = sc₁} k q w =
-      subst (λ (z : Answer). Left l sc m z sc₁ (recursed l ds rs cs sc g m t n d levels)) (sym (w ∙ ap answerOf q))
-      (rec-stops c n d levels the-parts in-scope (subst (λ (z : Reduced). Ran l sc m z sc₁ (resBy l ds rs cs sc g m n (ptrOf p))) q k))
+  major-stops n k q w = handed-up q w (rec-stops c n d levels the-parts in-scope (ran-as q k))
 
 -- THE MAJOR CAME TO q
 
@@ -156,10 +143,7 @@ pub reached : {l ds rs cs sc : List ℕ} {g : Given} {m : Meter} {t : Ptr} {coun
     {q : Ptr} {m₁ : Meter} {sc₁ : List ℕ} {r : Reduced} →
     Majored l ds rs cs sc g m t count d levels x p → Ran l sc m r sc₁ (resBy l ds rs cs sc g m n (ptrOf p)) → r ≡ To q m₁ →
     Reached l ds rs cs sc g m t count d levels x p n q m₁ sc₁
-reached {l} {ds} {rs} {cs} {sc} {g} {m} {p = p} {n} {sc₁ = sc₁} o k q = record {
-  majored = o;
-  ran = subst (λ (z : Reduced). Ran l sc m z sc₁ (resBy l ds rs cs sc g m n (ptrOf p))) q k;
-}
+reached o k q = record { majored = o; ran = ran-as q k }
 
 module _ {l ds rs cs sc : List ℕ} {g : Given} {m : Meter} {t : Ptr} {count d levels : ℕ} {x : Decl} {p : Ptr} {n : ℕ}
     {q : Ptr} {m₁ : Meter} {sc₁ : List ℕ} (o : Reached l ds rs cs sc g m t count d levels x p n q m₁ sc₁) where

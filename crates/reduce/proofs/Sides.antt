@@ -7,6 +7,7 @@ use mathlib.Core.Path.{_≡_, sym, ap, _∙_, subst}
 use mathlib.Core.List.{List}
 use mathlib.Core.Option.{some}
 use lib.ListN.{length}
+use Rattle.rules.specs.Rows as rules
 use Rattle.rules.specs.RowCheck.{AllPass, InScope}
 use Rattle.rules.specs.Declarations.{nth}
 use Rattle.course.specs.Eval.{Res}
@@ -16,7 +17,7 @@ use Rattle.rows.specs.declared.Ptr.{Ptr}
 use Rattle.rows.specs.Words.{ptrOf, storeOf, whole}
 use Rattle.rows.proofs.Store.{held-length}
 use Rattle.spine.specs.Walks as walks
-use Rattle.spine.proofs.ForCallers.{may-ask, argument-is, argument-scope}
+use Rattle.spine.proofs.ForCallers.{scope-at, may-ask, arguments-in-scope, argument-is, argument-scope}
 use Rattle.fields.specs.Fields as fields
 use Rattle.state.specs.declared.Given.{Given}
 use Rattle.state.specs.declared.Meter.{Meter}
@@ -73,6 +74,11 @@ module _ {l ds rs cs sc : List ℕ} {g : Given} {m : Meter} {t : Ptr} {count : �
   may-take =
       may-ask l sc (m .mark) (g .nlib) _ (g .depth) (c .asked .stand .held) (c .asked .stand .sane .pass) t (c .asked .scope) (c .asked .stand .small)
       count (c .counted)
+
+  -- an argument by its position is in scope
+  pub nth-taken : {x : rules.Ptr} (i : ℕ) → nth (argsOf (storeOf l sc (m .mark)) (ptrOf t)) i ≡ some x → InScope (storeOf l sc (m .mark)) (g .depth) x
+  nth-taken i q =
+      scope-at (arguments-in-scope l sc (m .mark) (g .nlib) _ (g .depth) (c .asked .stand .held) (c .asked .stand .sane .pass) t (c .asked .scope)) i q
 
   module _ {i : ℕ} {x : Ptr} (taken : walks.Argument (whole l sc) (ptrOf t) count i x) where
     pub taken-is : nth (argsOf (storeOf l sc (m .mark)) (ptrOf t)) i ≡ some (ptrOf x)

@@ -1,6 +1,6 @@
 -- A row below the mark, taken apart as code reads it: which row of the rules its nine words are, that its kind and unused words are right,
 -- and what each of its three fields is ready for. Assumes nothing but what the code is given.
-use Prim.Native.Nat.{ℕ, zero, suc, _+_, _*_, _-_, _≤_, _<_, max, pred}
+use Prim.Native.Nat.{ℕ, zero, suc, _+_, _*_, _≤_, _<_, max, pred}
 use native.Mathlib.Nat.{le-refl}
 use native.Mathlib.Omega.{arith}
 use mathlib.Core.Path.{_≡_, refl, sym, ap, subst, _∙_}

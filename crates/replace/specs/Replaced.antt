@@ -1,6 +1,6 @@
 -- What replacement is given and what it promises: the course's own answer, with every fuel that the recorded height allows.
 -- Assumes nothing: these are definitions.
-use Prim.Native.Nat.{ℕ, zero, suc, _+_, _-_, _/_, _≤_, _<_}
+use Prim.Native.Nat.{ℕ, zero, suc, _+_, _/_, _≤_, _<_}
 use mathlib.Core.Path.{_≡_}
 use mathlib.Core.List.{List}
 use mathlib.Core.Option.{Option, none, some}
@@ -11,7 +11,6 @@ use Rattle.rules.specs.Rows.{cellAt, rowAt, fieldHeight}
 use Rattle.rules.specs.RowCheck.{FieldOk, AllPass}
 use Rattle.rules.specs.Accepted.{IsRow}
 use Rattle.course.specs.Views.{cmp}
-use Rattle.course.specs.Charged as course
 use Rattle.course.specs.Charged.{indexIn, fieldIn, rowIn, replaceIn}
 use Rattle.substitution.specs.Stores.{Good}
 use Rattle.substitution.specs.Existence.{ValueGood}

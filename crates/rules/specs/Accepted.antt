@@ -5,11 +5,11 @@ use mathlib.Core.List.{List, [], _∷_, _++_}
 use mathlib.Core.Option.{Option, none, some}
 use lib.ListN.{length, getD, take, drop}
 use Rattle.rules.specs.Maxima.{most-levels, most-rows, most-declarations, most-records, most-rules, most-rules-in-all, most-steps, most-nesting}
-use Rattle.rules.specs.Kinds.{Kind, sort, const, app, lam, pi, let′, proj, num}
+use Rattle.rules.specs.Kinds.{sort, const, app, lam, pi, let′, proj, num}
 use Rattle.rules.specs.Rows.{Ptr, ptr, blank, Row, var, node, leaf, Cell, Store, cellAt}
 use Rattle.rules.specs.RowCheck.{Passes, InScope}
 use Rattle.rules.specs.Arithmetic.{wordsValue}
-use Rattle.rules.specs.Declarations.{Role, no-role, roleCode, Rule, Recursor, Form, plain, constructor, recursor, structure, Decl, Entry, Env, nth, declAt}
+use Rattle.rules.specs.Declarations.{Role, roleCode, Rule, Recursor, Form, plain, constructor, recursor, structure, Decl, Entry, Env, nth, declAt}
 
 -- what a call is lent and asked
 pub record Lent : Type 0 where

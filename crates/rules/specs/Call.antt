@@ -7,7 +7,7 @@ use Rattle.rules.specs.Rows.{Ptr, Cell, Store}
 use Rattle.rules.specs.Declarations.{Env, nth}
 use Rattle.rules.specs.Accepted.{Lent, IsRow, part, libraryRows, Accepted, NotAccepted}
 use Rattle.rules.specs.Refusals.{Limits, Refused, Answered}
-use mathlib.Core.Option.{Option, some}
+use mathlib.Core.Option.{some}
 
 -- a term with its steps and rows, or one numbered refusal with its place
 pub data Answer : Type 0 where

@@ -2,10 +2,10 @@
 use Prim.Native.Nat.{ℕ, suc, _≤_}
 use mathlib.Core.Path.{_≡_}
 use mathlib.Core.List.{List, [], _∷_, _++_}
-use mathlib.Core.Option.{Option, some}
+use mathlib.Core.Option.{some}
 use Rattle.rules.specs.Maxima.{most-number}
-use Rattle.rules.specs.Kinds.{Kind, const, num}
-use Rattle.rules.specs.Rows.{Ptr, Row, leaf, Cell, Store, Got, got, put}
+use Rattle.rules.specs.Kinds.{const, num}
+use Rattle.rules.specs.Rows.{Ptr, leaf, Cell, Store, Got, got, put}
 use Rattle.rules.specs.RowCheck.{Fits}
 use Rattle.rules.specs.Replacement.{Replaces}
 use Rattle.rules.specs.Spines.{joined}

@@ -3,8 +3,8 @@
 use Prim.Native.Nat.{ℕ, suc, _+_}
 use mathlib.Core.Path.{_≡_}
 use mathlib.Core.List.{List, [], _∷_}
-use mathlib.Core.Option.{Option, none, some}
-use Rattle.rules.specs.Kinds.{Kind, sort, const, app, lam, pi, let′, proj, num}
+use mathlib.Core.Option.{none, some}
+use Rattle.rules.specs.Kinds.{sort, const, lam, pi, let′, proj, num}
 use Rattle.rules.specs.Rows.{Ptr, Row, var, node, Store, rowAt, up, grow}
 use Rattle.rules.specs.Declarations.{Recursor, Decl, Env, declAt, valueOf}
 use Rattle.rules.specs.Spines.{Spine}

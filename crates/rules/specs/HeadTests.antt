@@ -5,7 +5,7 @@ use mathlib.Core.List.{List, [], _∷_, _++_}
 use mathlib.Core.Option.{Option, none, some}
 use lib.ListN.{length, take, drop}
 use lib.Dec.{eqb, leb}
-use Rattle.rules.specs.Kinds.{Kind, sort, const, app, lam, pi, let′, proj, num}
+use Rattle.rules.specs.Kinds.{sort, const, app, lam, pi, let′, proj, num}
 use Rattle.rules.specs.Rows.{Ptr, ptr, blank, Row, var, node, leaf, Store}
 use Rattle.rules.specs.Declarations.{Role, no-role, nat, zero′, succ′, true′, false′, quot-mk, quot-lift, quot-ind, arith, Rule, Recursor, Form, plain, constructor, recursor, structure, Decl, Env, nth, declAt, roleCode, holder}
 use Rattle.rules.specs.Arithmetic.{Op, add, sub, mul, div, mod′, beq, ble, Computed, number, truth}

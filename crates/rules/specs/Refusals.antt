@@ -2,11 +2,11 @@
 -- The demands are those of the head rules and nothing else; no budget stands in `Meets`.
 use Prim.Native.Nat.{ℕ, zero, suc, _≤_, _<_}
 use mathlib.Core.Path.{_≡_}
-use mathlib.Core.List.{List, [], _∷_, _++_}
-use mathlib.Core.Option.{Option, some}
+use mathlib.Core.List.{List, _∷_, _++_}
+use mathlib.Core.Option.{some}
 use lib.ListN.{length}
 use Rattle.rules.specs.Maxima.{most-number}
-use Rattle.rules.specs.Kinds.{Kind, proj}
+use Rattle.rules.specs.Kinds.{proj}
 use Rattle.rules.specs.Rows.{Ptr, Row, node, Cell, Store, up, grow, Got}
 use Rattle.rules.specs.RowCheck.{Fits}
 use Rattle.rules.specs.Declarations.{Recursor, Decl, Env}

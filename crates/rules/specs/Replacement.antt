@@ -1,5 +1,5 @@
 -- Replacement, at cutoff c, with one value (n = 1) or none (n = 0) and a move k: from a store and a pointer to the store grown and a pointer.
-use Prim.Native.Nat.{ℕ, zero, suc, _+_, _-_, _≤_, _<_}
+use Prim.Native.Nat.{ℕ, suc, _+_, _-_, _≤_, _<_}
 use mathlib.Core.Path.{_≡_}
 use mathlib.Core.Option.{Option, none, some}
 use Rattle.rules.specs.Kinds.{Kind, Tag, plain, term, body, fields}

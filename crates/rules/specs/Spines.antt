@@ -2,7 +2,7 @@
 use Prim.Native.Nat.{ℕ}
 use mathlib.Core.Path.{_≡_}
 use mathlib.Core.List.{List, [], _∷_}
-use Rattle.rules.specs.Kinds.{Kind, sort, const, app, lam, pi, let′, proj, num}
+use Rattle.rules.specs.Kinds.{sort, const, app, lam, pi, let′, proj, num}
 use Rattle.rules.specs.Rows.{Ptr, blank, Row, var, node, Store, rowAt, up, Got, got, put}
 
 pub data NoApp : Row → Type 0 where

@@ -1,17 +1,16 @@
 -- The walk to an argument: from t down the functions until as many arguments are left as the position wants.
 -- Assumes nothing.
-use Prim.Native.Nat.{ℕ, zero, suc, _+_, _-_, _≤_, _<_}
+use Prim.Native.Nat.{ℕ, suc, _+_, _-_, _<_}
 use native.Mathlib.Omega.{arith}
 use mathlib.Core.Path.{_≡_, refl, sym, ap, _∙_, subst}
 use mathlib.Core.List.{List, [], _∷_, _++_}
-use mathlib.Core.Option.{Option, some}
-use borrow.Author.Tests.{eqb-true}
+use mathlib.Core.Option.{some}
 use native.Mathlib.Decide.{ℕ-discrete}
 use lib.ListN.{length, getD, length-append}
 use lib.Seq.{append-snoc}
 use Rattle.rules.specs.Kinds.{app}
 use Rattle.rules.specs.Rows as rules
-use Rattle.rules.specs.Rows.{node, blank, Store, rowAt, up}
+use Rattle.rules.specs.Rows.{node, Store, rowAt, up}
 use Rattle.rules.specs.RowCheck.{InScope}
 use Rattle.rules.specs.Declarations.{nth}
 use Rattle.rules.specs.Spines.{Spine, head, through, NoApp}

@@ -1,25 +1,23 @@
 -- The walk to the head: what holds at each application that it has reached, and what it has found at its end.
 -- Assumes nothing.
-use Prim.Native.Nat.{ℕ, zero, suc, _+_, _≤_, _<_}
-use native.Mathlib.Nat.{le-refl}
+use Prim.Native.Nat.{ℕ, _+_, _≤_, _<_}
 use native.Mathlib.Omega.{arith}
-use mathlib.Core.Path.{_≡_, refl, sym, ap, _∙_, subst}
+use mathlib.Core.Path.{_≡_, refl, ap}
 use mathlib.Core.List.{List, [], _∷_}
 use lib.ListN.{length, getD}
 use Rattle.rules.specs.Rows as rules
-use Rattle.rules.specs.Rows.{Cell, Store, cellAt, up}
+use Rattle.rules.specs.Rows.{Cell, cellAt, up}
 use Rattle.rules.specs.RowCheck.{InScope}
 use Rattle.rules.specs.Spines.{Spine, head}
-use Rattle.substitution.specs.Stores.{Formed, Ext, scope-good}
+use Rattle.substitution.specs.Stores.{scope-good}
 use Rattle.substitution.specs.Passing.{pass-formed}
 use Rattle.ways.specs.Spines.{spine-later}
 use Rattle.rows.specs.declared.Ptr.{Ptr}
 use Rattle.rows.specs.Words.{ptrOf, pairAt, decode, wordsAt, storeOf, whole, Stands}
 use Rattle.rows.proofs.Store.{cell-is, used-stands, held-length}
 use Rattle.spine.proofs.Prefix.{whole-ext}
-use Rattle.spine.specs.declared.Spined.{Spined}
 use Rattle.spine.specs.Walks.{Walks, HasChild, Walked}
-use Rattle.spine.proofs.Walking.{is-application, has-function, function-answered, step-scope, step-lower, step-spine, head-there}
+use Rattle.spine.proofs.Walking.{has-function, function-answered, step-scope, step-lower, step-spine, head-there}
 
 -- the recorded height, where it stands
 abbrev pub heightAt : List ℕ → List ℕ → Ptr → ℕ

@@ -2,19 +2,19 @@
 -- Assumes a term in scope in formed rows (`Walks`).
 use Prim.Native.Nat.{ℕ, zero, suc, _+_, _≤_, _<_}
 use native.Mathlib.Omega.{arith}
-use mathlib.Core.Path.{_≡_, refl, sym, ap, _∙_, subst}
-use mathlib.Core.List.{List, [], _∷_}
-use lib.ListN.{length, getD}
+use mathlib.Core.Path.{_≡_, refl, ap, _∙_, subst}
+use mathlib.Core.List.{List, _∷_}
+use lib.ListN.{getD}
 use Rattle.rules.specs.Maxima.{most-bound}
 use Rattle.rules.specs.Kinds.{app, table}
 use Rattle.rules.specs.Rows as rules
-use Rattle.rules.specs.Rows.{Row, node, Cell, Store, blank, rowAt, cellAt, bound, boundOn, up, upOn}
+use Rattle.rules.specs.Rows.{node, Cell, Store, blank, rowAt, cellAt, bound, boundOn, up, upOn}
 use Rattle.rules.specs.RowCheck.{InScope}
 use Rattle.rules.specs.Spines.{Spine, through, NoApp, no-var, no-sort, no-const, no-lam, no-pi, no-let, no-proj, no-num}
 use Rattle.substitution.specs.Stores.{Formed, Good, scope-good}
 use Rattle.ways.specs.Spines.{function-good, argument-good, function-lower, function-scope, argument-scope, up-row}
 use Rattle.rows.specs.declared.Ptr.{Ptr}
-use Rattle.rows.specs.Words.{ptrOf, kindOf, tagsAt, rowBy, rowOf, pairAt, shapeAt, decode, wordsAt, storeOf, whole, Stands, Held}
+use Rattle.rows.specs.Words.{ptrOf, kindOf, tagsAt, rowBy, rowOf, pairAt, shapeAt, decode, wordsAt, storeOf, whole, Held}
 use Rattle.rows.proofs.Store.{cell-is, used-stands, up-used, held-length}
 use Rattle.spine.specs.Walks.{HasChild}
 

@@ -1,20 +1,19 @@
 -- What the walks along a spine are given and what they answer. Assumes nothing: these are definitions.
-use Prim.Native.Nat.{ℕ, _+_, _-_, _/_, _≤_, _<_}
+use Prim.Native.Nat.{ℕ, _+_, _-_, _≤_, _<_}
 use mathlib.Core.Path.{_≡_}
 use mathlib.Core.List.{List, []}
-use mathlib.Core.Option.{Option, some}
+use mathlib.Core.Option.{some}
 use lib.ListN.{length, take, drop}
 use Rattle.rules.specs.Maxima.{most-bound}
-use Rattle.rules.specs.Kinds.{app}
 use Rattle.rules.specs.Rows as rules
-use Rattle.rules.specs.Rows.{Store, node, rowAt, up}
+use Rattle.rules.specs.Rows.{Store}
 use Rattle.rules.specs.RowCheck.{AllPass, InScope}
 use Rattle.rules.specs.Declarations.{nth}
 use Rattle.rules.specs.Spines.{Spine}
 use Rattle.course.specs.Charged.{Out, joinIn}
 use Rattle.ways.specs.Spines.{argsOf}
 use Rattle.rows.specs.declared.Ptr.{Ptr}
-use Rattle.rows.specs.Words.{ptrOf, pairAt, wordsAt, storeOf, whole, Stands, Held}
+use Rattle.rows.specs.Words.{ptrOf, pairAt, wordsAt, storeOf, Stands, Held}
 use Rattle.spine.specs.declared.Spined.{Spined}
 
 -- t is a term in scope at some depth, in rows that pass; scratch rows are used up to some mark

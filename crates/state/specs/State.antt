@@ -6,8 +6,6 @@ use mathlib.Core.List.{List}
 use mathlib.Core.Option.{Option, none, some}
 use lib.ListN.{length, take}
 use Rattle.rules.specs.Maxima.{most-bound, most-steps}
-use Rattle.rules.specs.Rows as rules
-use Rattle.rules.specs.Rows.{Store}
 use Rattle.rules.specs.RowCheck.{AllPass, InScope}
 use Rattle.rules.specs.Accepted.{IsRow}
 use Rattle.rules.specs.Firings.{Tally, tally}

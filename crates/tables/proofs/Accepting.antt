@@ -1,22 +1,19 @@
 -- From what the checks say, one after the other, to the rules' words: refused with a number and a place, or accepted.
 -- Assumes `Sizes w`, which the first check shows.
-use Prim.Native.Nat.{ℕ, _+_, _*_, _/_, _%_, _≤_, _<_}
+use Prim.Native.Nat.{ℕ, _+_, _*_, _≤_, _<_}
 use native.Mathlib.Omega.{arith}
-use mathlib.Core.Path.{_≡_, refl, sym, ap, subst, _∙_}
+use mathlib.Core.Path.{_≡_, refl, sym, subst}
 use mathlib.Core.Bool.{Bool, true, false, not}
-use mathlib.Core.List.{List}
 use lib.ListN.{length}
 use Rattle.rules.specs.Rows.{Store, cellAt}
-use Rattle.rules.specs.RowCheck.{Passes, InScope}
-use Rattle.rules.specs.Declarations.{Decl, Entry}
-use Rattle.rules.specs.Accepted.{Lent, IsRow, IsDecl, IsEntry, DeclOk, EntryOk, Keep, Lowest, Sizes, libraryRows, rowWords, declarationCount, RowsKept}
-use Rattle.rules.specs.Accepted.{DeclarationsKept, RecordsKept, Accepted, NotAccepted, no-sizes, a-row, a-declaration, a-record, the-term}
+use Rattle.rules.specs.RowCheck.{InScope}
+use Rattle.rules.specs.Accepted.{Lent, IsDecl, IsEntry, DeclOk, EntryOk, Sizes, libraryRows, declarationCount, RowsKept}
+use Rattle.rules.specs.Accepted.{DeclarationsKept, RecordsKept, Accepted, a-row, a-declaration, a-record, the-term}
 use Rattle.rows.specs.declared.row_check.Checked.{Checked}
 use Rattle.rows.specs.declared.row_check.Checked.the-variants.{AllPass, Broken}
-use Rattle.rows.specs.Words.{whole, storeOf, Held}
+use Rattle.rows.specs.Words.{whole, Held}
 use Rattle.rows.specs.Checks.{Says, CheckSays, all-pass, broken}
 use Rattle.rows.proofs.Store.{cell-used, held-length}
-use Rattle.tables.specs.declared.accept.Verdict.{Verdict}
 use Rattle.tables.specs.declared.accept.Verdict.the-variants as verdict
 use Rattle.tables.specs.Env.{declOf, entryOf}
 use Rattle.tables.specs.Clauses.{Rows, Scoped, DeclKeeps, EntryRight, Upward, all-hold, fails-at}

@@ -1,24 +1,24 @@
 -- Each clause's answer from the tests that lead to it, on plain values: what a need of a clause cites.
 -- Assumes nothing.
-use Prim.Native.Nat.{ℕ, zero, suc, _+_, _*_, _≤_, _<_}
+use Prim.Native.Nat.{ℕ, _+_, _*_, _≤_, _<_}
 use native.Mathlib.Decide.{decLt}
 use native.Mathlib.Omega.{arith}
-use mathlib.Core.Path.{_≡_, refl, sym, ap, subst, _∙_}
+use mathlib.Core.Path.{_≡_, sym, ap, subst, _∙_}
 use mathlib.Core.Bool.{Bool, true, false, not}
 use mathlib.Core.List.{List}
 use borrow.Author.Tests.{not-true, not-false}
 use lib.Dec.{eqb, leb}
 use lib.ListN.{length, getD}
-use Rattle.rules.specs.Rows.{Ptr, ptr, blank, Store, cellAt, bound, boundOn}
+use Rattle.rules.specs.Rows.{Ptr, ptr, blank, Store, cellAt, bound}
 use Rattle.rules.specs.Accepted.{part, IsConstructor}
-use Rattle.rows.specs.Words.{ptrOf, whole, Stands}
+use Rattle.rows.specs.Words.{ptrOf, Stands}
 use Rattle.rows.specs.Checks.{Says}
 use Rattle.rows.proofs.Answers.{says-yes, says-no, says-same, says-equal, says-at-most}
 use Rattle.rows.proofs.Lookup.{closed-bound, open-bound}
 use Rattle.tables.specs.declared.Rule as code
 use Rattle.tables.specs.Read.{ruleRead}
-use Rattle.tables.specs.Clauses.{Rows, Scoped, ValueRight, no-value, a-value, Idle, RuleRight, RulesRight, RecursorRight, FormRight, plain-right}
-use Rattle.tables.specs.Clauses.{constructor-right, recursor-right, structure-right, DeclRight, RoleFree, EntryRight}
+use Rattle.tables.specs.Clauses.{Rows, Scoped, ValueRight, no-value, a-value, RuleRight}
+use Rattle.tables.specs.Clauses.{RoleFree, EntryRight}
 
 -- ANSWERS IN TURN
 

@@ -1,22 +1,22 @@
 -- A declaration whose words pass the clauses is one that the rules accept at its place, and the other way.
 -- Assumes that the declaration's words are there.
-use Prim.Native.Nat.{ℕ, suc, _+_, _*_, _≤_, _<_}
+use Prim.Native.Nat.{ℕ, _+_, _*_, _≤_, _<_}
 use native.Mathlib.Omega.{arith}
 use mathlib.Core.Path.{_≡_, refl, sym, ap, subst, _∙_}
 use mathlib.Core.List.{List, [], _∷_}
-use mathlib.Core.Option.{Option, some}
+use mathlib.Core.Option.{some}
 use lib.ListN.{length, getD}
 use Rattle.rules.specs.Maxima.{most-levels}
-use Rattle.rules.specs.Rows.{Ptr, ptr, Store, cellAt}
-use Rattle.rules.specs.Declarations.{Role, roleCode, Rule, Recursor, Form, plain, constructor, recursor, structure, Decl, nth, declAt}
+use Rattle.rules.specs.Rows.{Ptr, Store, cellAt}
+use Rattle.rules.specs.Declarations.{roleCode, Rule, Form, constructor, Decl, nth, declAt}
 use Rattle.rules.specs.Accepted.{part, IsRule, rule-words, AreRules, IsForm, plain-words, constructor-words, recursor-words, structure-words, IsDecl}
 use Rattle.rules.specs.Accepted.{decl-words, Closed, IsConstructor, FormOk, plain-ok, constructor-ok, recursor-ok, structure-ok, DeclOk}
 use Rattle.tables.specs.Records.{recordsFrom, records-many, records-nth}
-use Rattle.tables.specs.Env.{roleBy, valueBy, ruleOf, formBy, declOf}
+use Rattle.tables.specs.Env.{ruleOf, formBy, declOf}
 use Rattle.tables.specs.EnvLaws.{rule-read}
 use Rattle.tables.specs.ReadLaws.{role-code}
-use Rattle.tables.specs.Clauses.{Scoped, ValueRight, Idle, RuleRight, RulesRight, RecursorRight, FormRight, plain-right, constructor-right}
-use Rattle.tables.specs.Clauses.{recursor-right, structure-right, DeclRight, RoleRight, DeclKeeps}
+use Rattle.tables.specs.Clauses.{Scoped, RuleRight, RulesRight, FormRight, plain-right, constructor-right}
+use Rattle.tables.specs.Clauses.{recursor-right, structure-right, DeclRight, DeclKeeps}
 use Rattle.tables.proofs.Listed.{written-out, part-whole, idle-tail, some-same, nth-inside, nth-there, nth-getD}
 use Rattle.tables.proofs.Holding.{code-most, word-of}
 use Rattle.tables.proofs.ScopeLaws.{to-closed, from-closed, to-value, value-is, from-value, scoped-agrees, value-agrees}

@@ -1,16 +1,16 @@
 -- A context record whose five words pass the clauses is one that the rules accept at its place, and the other way.
 -- Assumes that the record's words are there.
-use Prim.Native.Nat.{ℕ, _+_, _*_, _≤_, _<_}
+use Prim.Native.Nat.{ℕ, _*_, _≤_, _<_}
 use native.Mathlib.Omega.{arith}
-use mathlib.Core.Path.{_≡_, refl, sym, ap, subst, _∙_}
-use mathlib.Core.List.{List, [], _∷_}
-use mathlib.Core.Option.{Option, some}
+use mathlib.Core.Path.{_≡_, sym, ap, subst, _∙_}
+use mathlib.Core.List.{List}
+use mathlib.Core.Option.{some}
 use lib.ListN.{length, getD}
 use Rattle.rules.specs.Rows.{Ptr, ptr, Store, cellAt}
 use Rattle.rules.specs.RowCheck.{InScope}
-use Rattle.rules.specs.Declarations.{Entry, nth}
+use Rattle.rules.specs.Declarations.{Entry}
 use Rattle.rules.specs.Accepted.{part, IsEntry, entry-words, EntryOk}
-use Rattle.tables.specs.Env.{valueBy, entryOf}
+use Rattle.tables.specs.Env.{entryOf}
 use Rattle.tables.specs.Clauses.{Scoped, ValueRight, EntryRight}
 use Rattle.tables.proofs.Listed.{written-out, part-whole, some-same}
 use Rattle.tables.proofs.ScopeLaws.{to-scope, from-scope, to-value, value-is, from-value, scoped-agrees, value-agrees}

@@ -1,12 +1,11 @@
 -- What acceptance gives to whoever reads the tables: each reader's `requires`, and the role words as codes.
 -- Assumes `Accepted w e s`.
-use Prim.Native.Nat.{ℕ, _+_, _*_, _/_, _≤_, _<_}
+use Prim.Native.Nat.{ℕ, _+_, _*_, _≤_, _<_}
 use native.Mathlib.Omega.{arith}
-use mathlib.Core.Path.{_≡_, refl}
-use mathlib.Core.List.{List}
+use mathlib.Core.Path.{_≡_}
 use lib.ListN.{length, getD}
-use Rattle.rules.specs.Rows.{Store, blank}
-use Rattle.rules.specs.Declarations.{Decl, Env, plain, declAt}
+use Rattle.rules.specs.Rows.{Store}
+use Rattle.rules.specs.Declarations.{Decl, Env}
 use Rattle.rules.specs.Accepted.{Lent, part, libraryRows, declarationCount, Accepted}
 use Rattle.tables.specs.declared.Decl as code
 use Rattle.tables.specs.Env.{declOf}

@@ -1,13 +1,12 @@
 -- From records that are right, one by one, to the rules' words for a list of records: each keeps its rule, or the lowest that does not.
 -- Assumes that being right is what the rules ask of a record's words and of its place, both ways; declarations and context records
 -- each show that.
-use Prim.Native.Nat.{ℕ, suc, _+_, _≤_, _<_}
+use Prim.Native.Nat.{ℕ, _≤_, _<_}
 use native.Mathlib.Nat.{zero-add}
 use native.Mathlib.Omega.{arith}
 use mathlib.Core.Path.{_≡_, sym, ap, subst, _∙_}
 use mathlib.Core.List.{List, [], _∷_, _++_}
-use mathlib.Core.Option.{Option, some}
-use lib.ListN.{length}
+use mathlib.Core.Option.{some}
 use Rattle.rules.specs.Declarations.{nth}
 use Rattle.rules.specs.Accepted.{part, Keep, Lowest}
 use Rattle.tables.specs.Records.{recordsFrom, records-many, records-nth}

@@ -1,12 +1,11 @@
 -- Lists of a known length, written out; a tail of zeros; the element at a position.
 -- Assumes nothing.
 use Prim.Native.Nat.{ℕ, zero, suc, _+_, _*_, _-_, _≤_, _<_}
-use native.Mathlib.Nat.{zero-add}
 use native.Mathlib.Omega.{arith}
 use mathlib.Core.Path.{_≡_, refl, sym, ap, _∙_}
 use mathlib.Core.List.{List, [], _∷_, _++_}
-use mathlib.Core.Option.{Option, none, some}
-use lib.ListN.{length, getD, take, drop, replicate, length-drop}
+use mathlib.Core.Option.{none, some}
+use lib.ListN.{length, getD, drop, replicate, length-drop}
 use lib.Seq.{drop-cons, getD-drop, length-take-le}
 use Rattle.rules.specs.Declarations.{nth}
 use Rattle.rules.specs.Accepted.{part}

@@ -1,20 +1,20 @@
 -- A record of a lent list, and the searches over rules and context records, one step each: what a need of a reader cites.
 -- Assumes nothing.
-use Prim.Native.Nat.{ℕ, zero, suc, _+_, _*_, _-_, _≤_, _<_}
+use Prim.Native.Nat.{ℕ, suc, _+_, _-_, _≤_, _<_}
 use native.Mathlib.Nat.{zero-add}
 use native.Mathlib.Omega.{arith}
-use mathlib.Core.Path.{_≡_, refl, sym, ap, ap₂, _∙_}
+use mathlib.Core.Path.{_≡_, sym, ap, _∙_}
 use mathlib.Core.List.{List}
 use mathlib.Core.Option.{Option, none, some}
 use borrow.Author.Tests.{eq-eqb, ne-eqb}
 use lib.ListN.{length, getD, take, drop, length-drop}
 use lib.Seq.{length-take-le}
 use Rattle.rules.specs.Rows.{Ptr, ptr}
-use Rattle.rules.specs.Declarations.{Rule, Entry, Env, nth, valueOn, valueOf}
+use Rattle.rules.specs.Declarations.{Rule, nth, valueOn, valueOf}
 use Rattle.rules.specs.HeadTests.{ruleFor}
 use Rattle.rules.specs.Accepted.{part}
 use Rattle.tables.specs.declared.Rule as code
-use Rattle.tables.specs.Records.{recordsFrom, records-many, records-nth, records-past}
+use Rattle.tables.specs.Records.{recordsFrom, records-many, records-nth}
 use Rattle.tables.specs.Env.{valueBy, ruleOf, entryOf, envOf}
 use Rattle.tables.specs.Read.{ruleRead, asRule, Words, ValueOf}
 use Rattle.tables.specs.ReadLaws.{value-there, value-absent}

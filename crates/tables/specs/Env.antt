@@ -1,12 +1,12 @@
 -- The environment that the lent words stand for: every word list is read as some environment, and accepted words as the one that the rules have.
 -- Assumes nothing: these are definitions.
-use Prim.Native.Nat.{ℕ, zero, suc, _+_, _/_}
+use Prim.Native.Nat.{ℕ, zero, suc, _/_}
 use mathlib.Core.List.{List, [], _∷_}
 use mathlib.Core.Option.{Option, none, some}
 use lib.ListN.{length, getD}
 use Rattle.rules.specs.Rows.{Ptr, ptr}
 use Rattle.rules.specs.Arithmetic.{add, sub, mul, div, mod′, beq, ble}
-use Rattle.rules.specs.Declarations.{Role, no-role, nat, zero′, succ′, true′, false′, quot-mk, quot-lift, quot-ind, arith, Rule, Recursor, Form, plain}
+use Rattle.rules.specs.Declarations.{Role, no-role, nat, zero′, succ′, true′, false′, quot-mk, quot-lift, quot-ind, arith, Rule, Form, plain}
 use Rattle.rules.specs.Declarations.{constructor, recursor, structure, Decl, Entry, Env}
 use Rattle.tables.specs.Records.{recordsFrom}
 

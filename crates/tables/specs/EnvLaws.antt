@@ -1,16 +1,16 @@
 -- Accepted words stand for exactly one environment: the one that is read from them.
-use Prim.Native.Nat.{ℕ, zero, suc, _+_, _/_}
+use Prim.Native.Nat.{ℕ, _/_}
 use native.Mathlib.Nat.{zero-add}
-use mathlib.Core.Path.{_≡_, refl, sym, ap, ap₂, _∙_}
+use mathlib.Core.Path.{_≡_, refl, sym, ap, _∙_}
 use mathlib.Core.List.{List, [], _∷_}
-use mathlib.Core.Option.{Option, none, some}
+use mathlib.Core.Option.{Option}
 use lib.ListN.{length}
 use Rattle.rules.specs.Rows.{Ptr, ptr, Store}
-use Rattle.rules.specs.Arithmetic.{Op, add, sub, mul, div, mod′, beq, ble}
+use Rattle.rules.specs.Arithmetic.{add, sub, mul, div, mod′, beq, ble}
 use Rattle.rules.specs.Declarations.{Role, no-role, nat, zero′, succ′, true′, false′, quot-mk, quot-lift, quot-ind, arith, roleCode, Rule, Form}
-use Rattle.rules.specs.Declarations.{recursor, Decl, Entry, Env, nth}
+use Rattle.rules.specs.Declarations.{recursor, Decl, Entry, Env}
 use Rattle.rules.specs.Accepted.{Lent, IsRule, rule-words, AreRules, IsForm, plain-words, constructor-words, recursor-words, structure-words, IsValue}
-use Rattle.rules.specs.Accepted.{absent, present, IsDecl, decl-words, IsEntry, entry-words, part, Keep, Accepted}
+use Rattle.rules.specs.Accepted.{absent, present, IsDecl, decl-words, IsEntry, entry-words, part, Accepted}
 use Rattle.tables.specs.Records.{recordsFrom, records-are}
 use Rattle.tables.specs.Env.{roleBy, valueBy, ruleOf, formBy, declOf, entryOf, envOf}
 

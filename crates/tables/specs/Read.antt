@@ -1,6 +1,6 @@
 -- What the readers hand over by value, as the rules' own: a declaration's and a rule's words, what was found, the table of holders.
 -- Assumes nothing: these are definitions.
-use Prim.Native.Nat.{ℕ, _+_, _≤_, _<_}
+use Prim.Native.Nat.{ℕ, _≤_}
 use mathlib.Core.Path.{_≡_}
 use mathlib.Core.List.{List}
 use mathlib.Core.Option.{Option, none, some}

@@ -3,12 +3,12 @@
 use Prim.Native.Nat.{ℕ, zero, suc, _+_, _/_, _≤_, _<_}
 use native.Mathlib.Nat.{zero-add}
 use native.Mathlib.Omega.{arith}
-use mathlib.Core.Path.{_≡_, refl, sym, ap, _∙_}
+use mathlib.Core.Path.{_≡_, refl, ap, _∙_}
 use mathlib.Core.List.{List, [], _∷_}
-use mathlib.Core.Option.{Option, none, some}
+use mathlib.Core.Option.{none, some}
 use lib.ListN.{length, getD, List·getD-eq-default}
 use Rattle.rules.specs.Rows.{Ptr}
-use Rattle.rules.specs.Declarations.{Role, no-role, roleCode, Recursor, Form, Decl, declAt}
+use Rattle.rules.specs.Declarations.{Role, no-role, roleCode, Recursor, Decl, declAt}
 use Rattle.rules.specs.HeadTests.{parametersOf, recursorOf}
 use Rattle.rules.specs.Accepted.{part}
 use Rattle.rows.specs.Words.{ptrOf}

@@ -1,10 +1,10 @@
 -- Lists of records of k words, read one by one, and the law that whatever keeps the rules of crates/rules is what is read here.
 use Prim.Native.Nat.{ℕ, zero, suc, _+_, _<_}
-use native.Mathlib.Nat.{add-zero, add-suc}
+use native.Mathlib.Nat.{add-zero}
 use native.Mathlib.Omega.{arith}
 use mathlib.Core.Path.{_≡_, refl, sym, ap, ap₂, _∙_}
 use mathlib.Core.List.{List, [], _∷_}
-use mathlib.Core.Option.{Option, none, some}
+use mathlib.Core.Option.{none, some}
 use lib.ListN.{length}
 use Rattle.rules.specs.Declarations.{nth}
 use Rattle.rules.specs.Accepted.{part}

@@ -1,21 +1,18 @@
 -- Spines on a formed store: they exist, the evaluator finds them, and head and arguments are in scope where the term is.
 -- Assumes rows that are formed (crate substitution) and pointers that are good or in scope.
-use Prim.Native.Nat.{ℕ, zero, suc, _+_, _≤_, _<_, max}
-use native.Mathlib.Nat.{le-refl, le-trans}
+use Prim.Native.Nat.{ℕ, zero, suc, _≤_, _<_}
+use native.Mathlib.Nat.{le-refl}
 use native.Mathlib.Omega.{arith}
 use mathlib.Core.Path.{_≡_, refl, sym, ap, _∙_, subst}
 use mathlib.Core.List.{List, [], _∷_}
 use mathlib.Core.Option.{Option, none, some}
-use lib.ListN.{length}
 use Rattle.rules.specs.Kinds.{app, table, fields}
-use Rattle.rules.specs.Rows.{Ptr, ptr, Row, var, node, Cell, Store, cellAt, rowAt, boundOn, bound, upOn, up, fieldBound, fieldHeight, cell}
-use Rattle.rules.specs.RowCheck.{ChildOk, InScope}
+use Rattle.rules.specs.Rows.{Ptr, Row, var, node, Cell, Store, cellAt, rowAt, boundOn, bound, upOn, up, fieldBound, fieldHeight, cell}
+use Rattle.rules.specs.RowCheck.{InScope}
 use Rattle.rules.specs.Spines.{Spine, head, through, NoApp}
-use Rattle.substitution.specs.Stores.{FieldsOk, first-ok, second-ok, term-child, Formed, Good, scope-good, fields-at, Ext, ext-row, ext-up, ext-good, up-child}
+use Rattle.substitution.specs.Stores.{first-ok, second-ok, term-child, Formed, Good, scope-good, fields-at, Ext, ext-row, ext-up, ext-good, up-child}
 use Rattle.course.specs.Views.{AppView, is-app, no-app, appView}
 use Rattle.course.specs.Eval.{Spined, spineOn, spineBy, spine}
-use Rattle.promises.specs.Same.{spine-same}
-use Rattle.promises.specs.SaysRows.{IsSpine, spine-says}
 
 -- THE TWO CHILDREN OF AN APPLICATION
 module _ {s : Store} {p f a z : Ptr} (formed : Formed s) (q : rowAt s (p .row) ≡ node app f a z) where

@@ -1,12 +1,12 @@
 -- A firing in stages, as code pays it: a row written, a run of arguments applied. After each stage all rows pass, and what was made stands there.
 -- Assumes a store whose rows pass, and pointers that are good in it.
-use Prim.Native.Nat.{ℕ, suc, _+_, _≤_, _<_}
+use Prim.Native.Nat.{ℕ}
 use native.Mathlib.Omega.{arith}
-use mathlib.Core.Path.{_≡_, refl, sym, ap, _∙_, subst}
-use mathlib.Core.List.{List, [], _∷_, _++_}
+use mathlib.Core.Path.{_≡_, refl, subst}
+use mathlib.Core.List.{List, [], _∷_}
 use lib.ListN.{length}
 use Rattle.rules.specs.Kinds.{app, table, fields}
-use Rattle.rules.specs.Rows.{Ptr, ptr, blank, Row, node, Store, cell, Got, got, put}
+use Rattle.rules.specs.Rows.{Ptr, blank, Row, node, Store, cell, Got, put}
 use Rattle.rules.specs.RowCheck.{AllPass, Fits, app-in, plain-ok, term-ok}
 use Rattle.course.specs.Views.{Cmp, at-most, over, cmp, FitView, fits, no-fit, fitView}
 use Rattle.course.specs.Charged.{Out, wrote, refused, and-on, putOn, putIn, joinIn}

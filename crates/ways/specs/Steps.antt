@@ -1,15 +1,15 @@
 -- One step at a head, as code answers it: fired, with the firing paid; final; or refused. `fireIn` pays row by row, as code does, and comes to the same.
 use Prim.Native.Nat.{ℕ, suc}
 use mathlib.Core.Path.{_≡_, refl, sym, ap, _∙_}
-use mathlib.Core.List.{List, []}
+use mathlib.Core.List.{List}
 use mathlib.Core.Option.{Option, none, some}
-use Rattle.rules.specs.Rows.{Ptr, Store, Got}
+use Rattle.rules.specs.Rows.{Ptr, Got}
 use Rattle.rules.specs.Firings.{Tally, tally, Result}
 use Rattle.rules.specs.Refusals.{Limits}
 use Rattle.course.specs.Views.{Cmp, at-most, over, cmp, NumberView, in-range, too-big, numberView}
 use Rattle.course.specs.Charged.{Out, wrote, refused, dueIn}
 use Rattle.course.specs.Charged as C
-use Rattle.course.specs.Eval.{Res, ok, no, lost, Ans, missed, firing, refuse, gone, Side, dueOf, charge, paidOn, dueOn, fireOn, fire, next, goOn}
+use Rattle.course.specs.Eval.{Res, ok, no, lost, Ans, missed, firing, refuse, gone, dueOf, charge, paidOn, dueOn, fireOn, fire}
 use Rattle.promises.specs.Charge.{settleOn, settle, due-in}
 
 pub data Step : Type 0 where

@@ -1,20 +1,19 @@
 -- The ways out of each head rule, over the evaluator: which tests lead to which answer. Each is what one return of the code shows.
 -- Holds for every store, every limits and every way `sd` to reduce aside; nothing is assumed.
-use Prim.Native.Nat.{ℕ, suc, _+_}
-use mathlib.Core.Path.{_≡_, refl, sym, ap, _∙_}
+use Prim.Native.Nat.{ℕ, suc}
+use mathlib.Core.Path.{_≡_, refl, ap, _∙_}
 use mathlib.Core.List.{List, [], _∷_}
 use mathlib.Core.Option.{Option, none, some}
-use Rattle.rules.specs.Kinds.{Kind, sort, const, app, lam, pi, let′, proj, num}
-use Rattle.rules.specs.Rows.{Ptr, Row, var, node, Store, rowAt, up, grow}
-use Rattle.rules.specs.Declarations.{Decl, Env, declAt, valueOf}
+use Rattle.rules.specs.Rows.{Ptr, Row, Store, rowAt, up, grow}
+use Rattle.rules.specs.Declarations.{Decl, Env, valueOf}
 use Rattle.rules.specs.Arithmetic.{compute}
-use Rattle.rules.specs.Firings.{Tally, tally, Result, opened, itself}
+use Rattle.rules.specs.Firings.{Tally, tally, Result, itself}
 use Rattle.rules.specs.HeadTests.{fieldAt, QuotParts, quotParts, quotMade, RecParts, recParts, Made, asConstructor, Ruled, byRule, asNumber, Operands}
 use Rattle.rules.specs.HeadTests.{operands, outcome, unfolds}
 use Rattle.rules.specs.Refusals.{Limits}
-use Rattle.course.specs.Tries.{Try, no-rule, fires, writes, reduces, with-it, _or-else_, lambda, variable, projection, quot, recursion, arithmetic}
+use Rattle.course.specs.Tries.{Try, fires, writes, reduces, with-it, variable, projection, quot, recursion, arithmetic}
 use Rattle.course.specs.Tries.{delta, constant, atRow, rules}
-use Rattle.course.specs.Eval.{Spined, spine, Res, ok, no, Ans, missed, firing, refuse, Side, charge, try, atHead}
+use Rattle.course.specs.Eval.{Spined, spine, ok, no, missed, firing, refuse, Side, charge, try, atHead}
 use Rattle.promises.specs.Else.{andThen, try-else}
 
 module _ (e : Env) (lim : Limits) (sd : Side) where

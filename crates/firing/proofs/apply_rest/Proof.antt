@@ -8,9 +8,6 @@ use Rattle.state.specs.State.{limitsIn}
 use Rattle.firing.proofs.Ends.{wrote-term, wrote-refused, rest-is, left-as}
 use Rattle.firing.proofs.apply_rest.Statement.{statement}
 use Rattle.firing.proofs.apply_rest.Tie as tie
-use Rattle.firing.proofs.apply_rest.Reads as reads
-use Rattle.firing.proofs.apply_rest.Lts as lts
-use Rattle.spine.proofs.apply.Reads as apply-reads
 
 apply-requires : tie.Need-apply-requires
 apply-requires c κs = search needs

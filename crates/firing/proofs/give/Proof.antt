@@ -5,9 +5,6 @@ use native.Mathlib.Omega.{arith}
 use Rattle.firing.proofs.Ends.{stopped-before, no-step, itself-fires, left-as}
 use Rattle.firing.proofs.give.Statement.{statement}
 use Rattle.firing.proofs.give.Tie as tie
-use Rattle.firing.proofs.give.Reads as reads
-use Rattle.firing.proofs.give.Lts as lts
-use Rattle.firing.proofs.apply_rest.Reads as apply-rest-reads
 
 returns : tie.Need-returns
 returns c = stopped-before 4 (no-step _ _ _ _ (c .if1 .taken))

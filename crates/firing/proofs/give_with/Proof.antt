@@ -6,10 +6,6 @@ use Rattle.firing.proofs.Ends.{stopped-before, no-step}
 use Rattle.firing.proofs.Applied.{stands-below, first-stops, others-headed, first-below, others-left}
 use Rattle.firing.proofs.give_with.Statement.{statement}
 use Rattle.firing.proofs.give_with.Tie as tie
-use Rattle.firing.proofs.give_with.Reads as reads
-use Rattle.firing.proofs.give_with.Lts as lts
-use Rattle.firing.proofs.apply_rest.Reads as apply-rest-reads
-use Rattle.spine.proofs.apply_one.Reads as apply-one-reads
 
 returns : tie.Need-returns
 returns c = stopped-before 4 (no-step _ _ _ _ (c .if1 .taken))

@@ -6,10 +6,6 @@ use Rattle.firing.proofs.Ends.{stopped-before, no-step}
 use Rattle.firing.proofs.Opening.{may-replace, replace-stops, rest-headed, rest-below, rest-left}
 use Rattle.firing.proofs.open.Statement.{statement}
 use Rattle.firing.proofs.open.Tie as tie
-use Rattle.firing.proofs.open.Reads as reads
-use Rattle.firing.proofs.open.Lts as lts
-use Rattle.firing.proofs.apply_rest.Reads as apply-rest-reads
-use Rattle.replace.proofs.replace.Reads as replace-reads
 
 returns : tie.Need-returns
 returns c = stopped-before 4 (no-step _ _ _ _ (c .if1 .taken))

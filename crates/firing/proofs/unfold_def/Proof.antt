@@ -4,9 +4,6 @@ use borrow.Author.Needs.{needs}
 use Rattle.firing.proofs.Unfolding.{none-unfolds, it-unfolds, no-value, other-levels, the-value}
 use Rattle.firing.proofs.unfold_def.Statement.{statement}
 use Rattle.firing.proofs.unfold_def.Tie as tie
-use Rattle.firing.proofs.unfold_def.Reads as reads
-use Rattle.firing.proofs.unfold_def.Lts as lts
-use Rattle.firing.proofs.give.Reads as give-reads
 
 returns : tie.Need-returns
 returns c = let start = c .before .before .before .before in none-unfolds _ _ _ (start .pre .0 .used .held .room) (no-value (start .args .d) (start .args .levels) (c .if1 .taken))

@@ -4,11 +4,6 @@ use borrow.Author.Needs.{needs}
 use Rattle.firing.proofs.Unfolding.{none-unfolds, it-unfolds, no-context-value, may-shift, raised-below, the-context-value}
 use Rattle.firing.proofs.variable.Statement.{statement}
 use Rattle.firing.proofs.variable.Tie as tie
-use Rattle.firing.proofs.variable.Reads as reads
-use Rattle.firing.proofs.variable.Lts as lts
-use Rattle.firing.proofs.give.Reads as give-reads
-use Rattle.rows.proofs.shift_up.Reads as shift-up-reads
-use Rattle.tables.proofs.value_of.Reads as value-of-reads
 
 value-of-requires : tie.Need-value-of-requires
 value-of-requires c κs = search needs

@@ -2,8 +2,6 @@
 use borrow.Author.Needs.{needs}
 use native.Mathlib.Omega.{arith}
 use Prim.Native.Nat.{ℕ}
-use mathlib.Core.Path.{_≡_}
-use Rattle.rows.specs.declared.Shape.{Shape}
 use Rattle.rows.proofs.Store.{used-stands}
 use Rattle.rows.proofs.Lookup.{nine-read, shape-read}
 use Rattle.rows.specs.Words.{Stands}

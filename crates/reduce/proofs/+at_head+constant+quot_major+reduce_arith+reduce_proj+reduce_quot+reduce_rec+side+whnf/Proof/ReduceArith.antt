@@ -8,7 +8,9 @@ use lib.ListN.{length}
 use Rattle.arith.specs.declared.Number.{Number}
 use Rattle.arith.specs.Meaning.{valueOf}
 use Rattle.reduce.proofs.ArithNeeds.{Call, Known, Trying, Operand, First, FirstDone, FirstNumber, Second, SecondDone}
-use Rattle.reduce.proofs.ArithNeeds.{may-ask-argument, may-read, may-fire, ran-as}
+use Rattle.cycle.proofs.HeadShapes.{walk-allowed}
+use Rattle.reduce.proofs.Sides.{ran-as, may-take}
+use Rattle.reduce.proofs.ArithNeeds.{may-fire}
 use Rattle.reduce.proofs.ArithNeeds.{untried, miscounted, trying, first-asked, first-refused, first-end, counted-on, no-first-number, first-number}
 use Rattle.reduce.proofs.ArithNeeds.{second-asked, second-refused, second-end, no-second-number, role-codes, truths, arithmetic-done}
 use Rattle.reduce.proofs.reduce_arith.Reads as reduce-arith
@@ -76,7 +78,7 @@ module _ (t : ℕ) (c : reduce-arith-lts.After-known-told (reduce-arith-claims t
   }
 
   first-done : FirstDone (call t read₂) (role t read₂) x
-  first-done = record { first = first t (side₁ .before .before); ran = ran-as (side₁ .side .ensures) (c .before .got .given .1) }
+  first-done = record { first = first t (side₁ .before .before); ran = ran-as (c .before .got .given .1) (side₁ .side .ensures) }
 
 -- it is a number
 module _ (t : ℕ) (c : reduce-arith-lts.After-known-told2 (reduce-arith-claims t) (reduce-arith-at t) reduce-arith.Post) where
@@ -120,7 +122,7 @@ module _ (t : ℕ) (c : reduce-arith-lts.After-known-told3 (reduce-arith-claims 
   }
 
   second-done : SecondDone (call t (read₂ t from₁)) (role t (read₂ t from₁)) (x t from₁) (a t (is₁ t asked₂)) y
-  second-done = record { second = second t asked₂; ran = ran-as (side₂ .side2 .ensures) (c .before .next .given .1) }
+  second-done = record { second = second t asked₂; ran = ran-as (c .before .next .given .1) (side₂ .side2 .ensures) }
 
   same-rows : length (y .scratch) ≡ length (start t (read₂ t from₁) .args .scratch .now)
   same-rows = side₂ .side2 .ensures .same-length ∙ side₁ t from₁ .side .ensures .same-length
@@ -151,7 +153,7 @@ pub reduce-arith-returns-2 : (t : ℕ) → reduce-arith-lts.Need-returns-2 (redu
 reduce-arith-returns-2 t c = let test = c .before .before in miscounted (known t (test .before)) (test .is-tried .ensures) (c .before .if1 .left) (c .if2 .taken)
 
 pub reduce-arith-argument-requires : (t : ℕ) → reduce-arith-lts.Need-argument-requires (reduce-arith-claims t) (reduce-arith-at t) reduce-arith.Post
-reduce-arith-argument-requires t c κs = let tested = tried t (c .before) in (may-ask-argument (tested .counted), let two = tested .two in omega arith)
+reduce-arith-argument-requires t c κs = let tested = tried t (c .before) in (may-take (tested .counted), let two = tested .two in omega arith)
 
 pub reduce-arith-side-requires : (t : ℕ) → reduce-arith-lts.Need-side-requires (reduce-arith-claims t) (reduce-arith-at t) reduce-arith.Post
 reduce-arith-side-requires t c κs = (let measure = start t (read₁ t (c .before)) .pre .0 in omega arith, first-asked (first t (c .before)))
@@ -174,7 +176,7 @@ reduce-arith-returns-3 t c =
     first-refused (first t (answered .before .before)) (answered .side .ensures) (c .before .enum-told .given .1) (c .as-answer .ensures)
 
 pub reduce-arith-number-at-requires : (t : ℕ) → reduce-arith-lts.Need-number-at-requires (reduce-arith-claims t) (reduce-arith-at t) reduce-arith.Post
-reduce-arith-number-at-requires t c κs = may-read (first-end (first-done t (c .before)))
+reduce-arith-number-at-requires t c κs = walk-allowed (first-end (first-done t (c .before)))
 
 pub reduce-arith-enum-known-found : (t : ℕ) → reduce-arith-lts.Need-enum-known-found (reduce-arith-claims t) (reduce-arith-at t) reduce-arith.Post
 reduce-arith-enum-known-found t c = search needs
@@ -193,7 +195,7 @@ reduce-arith-returns-4 t c =
 pub reduce-arith-argument-requires-2 : (t : ℕ) → reduce-arith-lts.Need-argument-requires-2 (reduce-arith-claims t) (reduce-arith-at t) reduce-arith.Post
 reduce-arith-argument-requires-2 t c κs =
     let done = done₁ t (c .before) in
-    (may-ask-argument (counted-on (first-done t done)), let two = tried t (side₁ t done .before .before .before .before) .two in omega arith)
+    (may-take (counted-on (first-done t done)), let two = tried t (side₁ t done .before .before .before .before) .two in omega arith)
 
 pub reduce-arith-side-requires-2 : (t : ℕ) → reduce-arith-lts.Need-side-requires-2 (reduce-arith-claims t) (reduce-arith-at t) reduce-arith.Post
 reduce-arith-side-requires-2 t c κs = (let measure = start t (read₂ t (ran₁ t (c .before))) .pre .0 in omega arith, second-asked (second t (c .before)))
@@ -216,7 +218,7 @@ reduce-arith-returns-5 t c =
     second-refused (second t (answered .before .before)) (answered .side2 .ensures) (c .before .enum-told3 .given .1) (c .as-answer2 .ensures)
 
 pub reduce-arith-number-at-requires-2 : (t : ℕ) → reduce-arith-lts.Need-number-at-requires-2 (reduce-arith-claims t) (reduce-arith-at t) reduce-arith.Post
-reduce-arith-number-at-requires-2 t c κs = may-read (second-end (second-done t (c .before)))
+reduce-arith-number-at-requires-2 t c κs = walk-allowed (second-end (second-done t (c .before)))
 
 pub reduce-arith-enum-known-other : (t : ℕ) → reduce-arith-lts.Need-enum-known-other (reduce-arith-claims t) (reduce-arith-at t) reduce-arith.Post
 reduce-arith-enum-known-other t c = search needs

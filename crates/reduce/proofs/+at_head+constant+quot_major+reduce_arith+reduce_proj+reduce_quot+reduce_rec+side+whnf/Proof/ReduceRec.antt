@@ -8,7 +8,8 @@ use Rattle.rows.specs.declared.Ptr.{Ptr}
 use Rattle.spine.specs.declared.Spined.{Spined}
 use Rattle.tables.specs.declared.Decl.{Decl}
 use Rattle.state.specs.declared.Meter.{Meter}
-use Rattle.reduce.proofs.RecNeeds.{Opened, levels-differ, no-recursors, too-few, may-read, Majored, major-asked, major-stops}
+use Rattle.reduce.proofs.Sides.{may-take}
+use Rattle.reduce.proofs.RecNeeds.{Opened, levels-differ, no-recursors, too-few, Majored, major-asked, major-stops}
 use Rattle.reduce.proofs.RecNeeds.{Reached, reached, major-stands, nothing-made, rows-refused, Built, built, may-rule, ruled-left}
 use Rattle.reduce.proofs.reduce_rec.Reads as reduce-rec
 use Rattle.reduce.proofs.+at_head+constant+quot_major+reduce_arith+reduce_proj+reduce_quot+reduce_rec+side+whnf.Lts-reduce_rec as reduce-rec-lts
@@ -145,7 +146,7 @@ reduce-rec-cast-argument t c =
     record { fits = omega arith }
 
 pub reduce-rec-argument-requires : (t : ℕ) → reduce-rec-lts.Need-argument-requires (reduce-rec-claims t) (reduce-rec-at t) reduce-rec.Post
-reduce-rec-argument-requires t c κs = (may-read (opened t (read t (c .before))), c .before .if3 .left)
+reduce-rec-argument-requires t c κs = (may-take (opened t (read t (c .before)) .counted), c .before .if3 .left)
 
 pub reduce-rec-side-requires : (t : ℕ) → reduce-rec-lts.Need-side-requires (reduce-rec-claims t) (reduce-rec-at t) reduce-rec.Post
 reduce-rec-side-requires t c κs =

@@ -1,7 +1,6 @@
 -- `tables::accept::accept` meets its contract: refused with the rules' number and place at the first check that says no, else accepted.
 -- Each place has its name: the sizes are right, then the rows, the declarations, the records. Assumes nothing.
 use borrow.Author.Needs.{needs}
-use Prim.Native.Nat.{_+_}
 use native.Mathlib.Omega.{arith}
 use borrow.Author.Tests.{not-true}
 use Rattle.rules.specs.Accepted.{Lent, Sizes, RowsKept, DeclarationsKept, RecordsKept, no-sizes}

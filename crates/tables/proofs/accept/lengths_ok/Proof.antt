@@ -1,6 +1,5 @@
 -- `tables::accept::lengths_ok` meets its contract: each clause in turn.
 -- Assumes nothing.
-use borrow.Author.Needs.{needs}
 use native.Mathlib.Omega.{arith}
 use lib.ListN.{length}
 use Rattle.rows.proofs.Answers.{says-no, says-same, says-at-most}
