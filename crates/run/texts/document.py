@@ -1,6 +1,6 @@
 #!/usr/bin/env python3
-"""Writes the file stdout: for each call of the file stdin the answer below, worked out by hand, and the sums of the words that are
-left. Of the text it reads only what the sums need, and it makes no call: `python3 answers.py > stdout`."""
+"""Writes the file document.out: for each call of the file document.txt the answer below, worked out by hand, and the sums of the words that are
+left. Of the text it reads only what the sums need, and it makes no call: `python3 document.py > document.out`."""
 import os
 
 JUNK = 4294967295
@@ -68,7 +68,7 @@ def main():
     folder = os.path.dirname(os.path.abspath(__file__))
     due = iter(ANSWERS)
     scratch, context, mark = [], [], 0
-    for line in open(os.path.join(folder, "stdin")):
+    for line in open(os.path.join(folder, "document.txt")):
         words = line.split("#")[0].split()
         if not words:
             continue
