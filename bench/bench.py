@@ -1,19 +1,20 @@
 #!/usr/bin/env python3
-"""Cost of a step, for three loads and three sizes of the library: instructions by valgrind's callgrind, which do not depend on what else the
-machine does, and steps per second by the clock, which do. `bench/bench.py` prints a table in Markdown.
+"""Cost of a step, for three loads and three sizes of the library: instructions, which do not depend on what else the machine does, and steps
+per second by the clock, which do. `bench/bench.py` prints a table in Markdown.
 
 A load is run once as it is and once with a call that takes no step over the same table, so that reading the text and acceptance fall away;
-what is left is divided by the steps."""
-import os, re, subprocess, sys, tempfile, time
+what is left is divided by the steps. Instructions are counted by valgrind's callgrind on x86-64; elsewhere the toolchain's emulator, which
+then runs the program, writes a line for each instruction, and the lines are counted."""
+import os, platform, re, subprocess, sys, tempfile, time
 
 ROOT = os.path.dirname(os.path.dirname(os.path.abspath(__file__)))
-PROGRAM = os.path.join(ROOT, "bin", "run")
+PROGRAM = os.path.join(ROOT, "target", "bin", "run")
 SIZES = [1000, 8000, 64000]
 
 
 class Table:
-    def __init__(self):
-        self.rows, self.decls, self.rules = [], [], []
+    def __init__(self, free):
+        self.rows, self.decls, self.rules, self.free = [], [], [], free
 
     def row(self, kind, pairs, bound, height):
         self.rows.append([kind, *pairs, *[0] * (6 - len(pairs)), bound, height])
@@ -54,21 +55,21 @@ class Table:
         out = ["lib " + " ".join(map(str, r)) for r in rows]
         out += ["decl " + " ".join(map(str, d)) for d in self.decls]
         out += ["rule " + " ".join(map(str, r)) for r in self.rules]
-        return "\n".join(out + ["fill 589824", "steps 1000000", "nesting 500"] + calls) + "\n"
+        return "\n".join(out + [f"fill {9 * self.free}", "steps 1000000", "nesting 500"] + calls) + "\n"
 
 
 def beta_chain():
     """c unfolds to (lambda x. x) c: half of the steps are delta, half are beta, and no row is written"""
-    t = Table()
+    t = Table(1)
     s = t.sort(0)
     value = t.app(t.lam(s, t.var(0)), t.const(0))
     t.decl(value=value)
-    return "a long beta chain", t, t.const(0), 200000
+    return "a long beta chain", t, t.const(0), 2000
 
 
 def recursor():
     """Nat.rec over a number, with a step function that hands the result on"""
-    t = Table()
+    t = Table(12000)
     s = t.sort(0)
     v0, v1, v2, v3 = (t.var(i) for i in range(4))
     rec = t.const(2)
@@ -79,12 +80,12 @@ def recursor():
     t.decl(kind=1, role=3, tail=(0, 1, 0, 0, 0, 0, 0, 0))
     t.decl(kind=2, tail=(0, 1, 2, 0, 0, 0, 2, 0))
     t.rules = [[0, 0, zero_rule, 0], [1, 1, succ_rule, 0]]
-    return "a recursor over a number", t, t.app(rec, s, s, step, t.num(1000)), None
+    return "a recursor over a number", t, t.app(rec, s, s, step, t.num(300)), None
 
 
 def arithmetic():
     """400 additions, one inside the other"""
-    t = Table()
+    t = Table(500)
     t.sort(0)
     t.decl(role=9)
     add, one = t.const(0), t.num(1)
@@ -94,18 +95,31 @@ def arithmetic():
     return "nested arithmetic", t, term, None
 
 
-def run(text, *before):
-    with tempfile.NamedTemporaryFile("w", suffix=".txt") as f:
-        f.write(text)
-        f.flush()
-        began = time.time()
-        done = subprocess.run([*before, PROGRAM, f.name], capture_output=True, text=True)
-        return done.stdout, done.stderr, time.time() - began
+def command(*options):
+    """the program, under the emulator where the processor is another"""
+    if platform.machine() == "x86_64":
+        return [PROGRAM]
+    kit = os.path.dirname(os.path.dirname(subprocess.run(["rt", "doc"], capture_output=True, text=True).stdout.strip()))
+    tools = os.path.join(kit, "on", platform.machine(), "toolchain")
+    return [f"{tools}/bin/qemu-x86_64", *options, f"{tools}/lib/ld-linux-x86-64.so.2", "--library-path", f"{tools}/lib", PROGRAM]
+
+
+def run(text):
+    began = time.time()
+    out = subprocess.run(command(), input=text, capture_output=True, text=True).stdout
+    return out, time.time() - began
 
 
 def instructions(text):
-    out = run(text, "valgrind", "--tool=callgrind", "--callgrind-out-file=/dev/null", "--trace-children=yes")[1]
-    return max(int(n) for n in re.findall(r"Collected : (\d+)", out))
+    with tempfile.NamedTemporaryFile("w", suffix=".txt") as f:
+        f.write(text)
+        f.flush()
+        if platform.machine() == "x86_64":
+            valgrind = ["valgrind", "--tool=callgrind", "--callgrind-out-file=/dev/null", PROGRAM, f.name]
+            said = subprocess.run(valgrind, capture_output=True, text=True).stderr
+            return int(re.search(r"Collected : (\d+)", said)[1])
+        counted = " ".join(command("-one-insn-per-tb", "-d", "exec,nochain", "-D", "/dev/stderr")) + f" {f.name} 2>&1 >/dev/null | wc -l"
+        return int(subprocess.run(counted, shell=True, capture_output=True, text=True).stdout)
 
 
 def measure(t, term, size, budget):
@@ -113,7 +127,7 @@ def measure(t, term, size, budget):
     text, idle = t.text(size, calls), t.text(size, ["whnf 0 0"])
     answer = run(text)[0].split("\n")[0]
     steps = budget if answer.startswith("refused 4") else int(re.search(r"steps (\d+)", answer)[1])
-    quick = min(run(text)[2] for _ in range(3)) - min(run(idle)[2] for _ in range(3))
+    quick = min(run(text)[1] for _ in range(3)) - min(run(idle)[1] for _ in range(3))
     resting = instructions(idle)
     return steps, (instructions(text) - resting) / steps, steps / max(quick, 1e-9), resting
 
