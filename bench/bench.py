@@ -10,6 +10,8 @@ import os, platform, re, subprocess, sys, tempfile, time
 ROOT = os.path.dirname(os.path.dirname(os.path.abspath(__file__)))
 PROGRAM = os.path.join(ROOT, "target", "bin", "run")
 SIZES = [1000, 8000, 64000]
+# Under the emulator a count of instructions takes minutes where the library is large: reading its text is what costs.
+COUNTED = SIZES if platform.machine() == "x86_64" else SIZES[:2]
 
 
 class Table:
@@ -64,7 +66,7 @@ def beta_chain():
     s = t.sort(0)
     value = t.app(t.lam(s, t.var(0)), t.const(0))
     t.decl(value=value)
-    return "a long beta chain", t, t.const(0), 2000
+    return "a long beta chain", t, t.const(0), 20000
 
 
 def recursor():
@@ -128,8 +130,10 @@ def measure(t, term, size, budget):
     answer = run(text)[0].split("\n")[0]
     steps = budget if answer.startswith("refused 4") else int(re.search(r"steps (\d+)", answer)[1])
     quick = min(run(text)[1] for _ in range(3)) - min(run(idle)[1] for _ in range(3))
+    if size not in COUNTED:
+        return f"{steps:,}", "not counted", f"{steps / max(quick, 1e-9):,.0f}", "not counted"
     resting = instructions(idle)
-    return steps, (instructions(text) - resting) / steps, steps / max(quick, 1e-9), resting
+    return f"{steps:,}", f"{(instructions(text) - resting) / steps:,.0f}", f"{steps / max(quick, 1e-9):,.0f}", f"{resting:,}"
 
 
 def main():
@@ -138,7 +142,7 @@ def main():
     for name, t, term, budget in (beta_chain(), recursor(), arithmetic()):
         for size in SIZES:
             steps, each, rate, resting = measure(t, term, size, budget)
-            print(f"| {name} | {size:,} | {steps:,} | {each:,.0f} | {rate:,.0f} | {resting:,} |")
+            print(f"| {name} | {size:,} | {steps} | {each} | {rate} | {resting} |")
             sys.stdout.flush()
 
 

@@ -1,6 +1,6 @@
 #!/usr/bin/env python3
 """Writes limiter.txt: the rows of the definitions below, each row once, with a comment that says what it is. The answers in the comments are
-worked out here with Python's own numbers; no answer is taken from the program. `python3 limiter.py > limiter.txt`."""
+worked out here with Python's own numbers; no answer is taken from the program. `python3 limiter.py > limiter.txt`, then crates/run/join."""
 
 # -- rows ---------------------------------------------------------------------------------------------------------------------------
 

@@ -21,6 +21,9 @@ SUPPORT = [
     ('the next older record\'s value', 'pub fn local_value(&self, i: u16) -> Option<ExprPtr<\'t>> { self.at(i).val }', 'pub fn local_value(&self, i: u16) -> Option<ExprPtr<\'t>> { if (i as usize) + 1 < self.frames.len() { self.at(i + 1).val } else { None } }'),
     ('a body\'s shift taken out whole', 'else { see(b.shift.saturating_sub(1)) }', 'else { see(b.shift) }'),
     ('mod by 0 is 0', 'pub fn nat_mod(x: BigUint, y: BigUint) -> BigUint { if y.is_zero() { x }', 'pub fn nat_mod(x: BigUint, y: BigUint) -> BigUint { if y.is_zero() { y }'),
+    ('div by 0 is the dividend', 'if y.is_zero() { y } else { x / y } }', 'if y.is_zero() { x } else { x / y } }'),
+    ('sub that does not stop at 0', 'if y >= x { BigUint::zero() } else { x - y } }', 'if y >= x { y - x } else { x - y } }'),
+    ('a shift dropped where one is put on a core', 'ExprPtr::from_nlbv(e, self.num_loose_bvars(e)).shift_up(amount) }', 'ExprPtr::from_nlbv(e, self.num_loose_bvars(e)).shift_up(if amount > 1 { amount - 1 } else { amount }) }'),
     ('caches shared by all depths', 'self.frames[bucket - 1].t.$field.get(k).copied()', 'self.frames.iter().find_map(|f| f.t.$field.get(k).copied())'),
 ]
 
@@ -53,9 +56,7 @@ def support(seed, tables, out):
         text = open(util).read()
         if text.count(old) != 1: raise SystemExit('no such place, or more than one: ' + name)
         open(util, 'w').write(text.replace(old, new))
-        env = dict(os.environ)
-        env.setdefault('NANOBRUIJN_SRC', os.path.join(here, '..', '..', 'shared', 'docs', 'src'))
-        subprocess.run([os.path.join(copy, 'build'), out], check=True, env=env)
+        subprocess.run([os.path.join(copy, 'build'), out], check=True)
         compare.ORACLE = [os.path.join(out, 'oracle')]
         missed += not hunt(name, seed, tables)
     return missed

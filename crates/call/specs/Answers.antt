@@ -5,7 +5,10 @@ use mathlib.Core.Path.{_≡_}
 use mathlib.Core.List.{List, _++_}
 use lib.ListN.{length, take, replicate}
 use Rattle.rules.specs.Call as rules
+use Rattle.rules.specs.Accepted.{Accepted}
+use Rattle.rows.specs.declared.Ptr.{Ptr}
 use Rattle.rows.specs.Words.{ptrOf}
+use Rattle.tables.specs.Verdicts.{lentOf, envIn, storeIn}
 use Rattle.tables.specs.Read.{HoldersOf}
 use Rattle.state.specs.declared.Given.{Given}
 use Rattle.call.specs.declared.Answered.{Answered}
@@ -23,6 +26,17 @@ markAs (Refused number place) mark = mark
 
 abbrev pub leftAs : Answered → ℕ → List ℕ → List ℕ → rules.Left
 leftAs r mark scratch context = record { mark = markAs r mark; scratch = scratch; context = context }
+
+-- THE CONTRACT: the rules' own statement of the call, over the words and the numbers in the order of the call's arguments; then the answer, and the
+-- scratch and the context after the call
+abbrev pub Answers : (library declarations rules context : List ℕ) (depth : ℕ) (scratch : List ℕ) (mark : ℕ) → Ptr → (steps nesting : ℕ) → Answered → List ℕ → List ℕ → Type 0
+Answers l ds rs cs depth sc mark p steps nesting r sc′ cs′ = rules.Whnf (lentOf l ds rs cs depth sc mark p steps nesting) (answerAs r) (leftAs r mark sc′ cs′)
+
+-- accepted as the environment and the store that the words stand for
+abbrev pub AcceptedAs : (library declarations rules context : List ℕ) (depth : ℕ) (scratch : List ℕ) (mark : ℕ) → Ptr → (steps nesting : ℕ) → Type 0
+AcceptedAs l ds rs cs depth sc mark p steps nesting =
+    Accepted (lentOf l ds rs cs depth sc mark p steps nesting) (envIn (lentOf l ds rs cs depth sc mark p steps nesting))
+    (storeIn (lentOf l ds rs cs depth sc mark p steps nesting))
 
 -- words from a place to the end are 0
 abbrev pub zeroedFrom : ℕ → List ℕ → List ℕ

@@ -11,10 +11,7 @@ ghost use mathlib.Core.Path.{_≡_};
 ghost use Prim.Native.Nat.{_*_, _≤_};
 ghost use lib.ListN.{length};
 ghost use Rattle.rules.specs.Maxima.{most-rows, most-declarations};
-ghost use Rattle.rules.specs.Accepted.{Accepted};
-ghost use Rattle.rules.specs.Call.{Whnf};
-ghost use Rattle.tables.specs.Verdicts.{lentOf, envIn, storeIn};
-ghost use Rattle.call.specs.Answers.{answerAs, leftAs, zeroedFrom, GivenBy};
+ghost use Rattle.call.specs.Answers.{Answers, AcceptedAs, zeroedFrom, GivenBy};
 
 pub enum Answered {
     // the term, steps, rows, and the mark after them
@@ -63,8 +60,8 @@ fn reduce(
     steps: u32,
     nesting: u32,
 ) -> Answered
-    requires { ⌜ Accepted (lentOf (now library) (now declarations) (now rules) (now context) depth (now scratch) mark term steps nesting) (envIn (lentOf (now library) (now declarations) (now rules) (now context) depth (now scratch) mark term steps nesting)) (storeIn (lentOf (now library) (now declarations) (now rules) (now context) depth (now scratch) mark term steps nesting)) ⌝ }
-    ensures { λ r. ⌜ Whnf (lentOf (now (library .entry)) (now (declarations .entry)) (now (rules .entry)) (now (context .entry)) depth (now (scratch .entry)) mark term steps nesting) (answerAs r) (leftAs r mark (now (scratch .exit)) (now (context .entry))) ⌝ }
+    requires { ⌜ AcceptedAs (now library) (now declarations) (now rules) (now context) depth (now scratch) mark term steps nesting ⌝ }
+    ensures { λ r. ⌜ Answers (now (library .entry)) (now (declarations .entry)) (now (rules .entry)) (now (context .entry)) depth (now (scratch .entry)) mark term steps nesting r (now (scratch .exit)) (now (context .exit)) ⌝ }
 {
     let g = given(library, declarations, depth, steps);
     let m = Meter { mark, steps: 0 };
@@ -102,7 +99,7 @@ pub fn whnf(
     steps: u32,
     nesting: u32,
 ) -> Answered
-    ensures { λ r. ⌜ Whnf (lentOf (now (library .entry)) (now (declarations .entry)) (now (rules .entry)) (now (context .entry)) depth (now (scratch .entry)) mark term steps nesting) (answerAs r) (leftAs r mark (now (scratch .exit)) (now (context .entry))) ⌝ }
+    ensures { λ r. ⌜ Answers (now (library .entry)) (now (declarations .entry)) (now (rules .entry)) (now (context .entry)) depth (now (scratch .entry)) mark term steps nesting r (now (scratch .exit)) (now (context .exit)) ⌝ }
 {
     match accept(
         library,

@@ -55,9 +55,23 @@ const QUOT_LIFT: u32 = 7;
 
 const QUOT_IND: u32 = 8;
 
+// add is the first operation, ble the last; from beq on an operation answers true or false
+const ADD: u32 = 9;
+
+const BEQ: u32 = 14;
+
+const BLE: u32 = 15;
+
 const TRUE: usize = 4;
 
 const FALSE: usize = 5;
+
+// Positions from 0: the major of Quot.lift and of Quot.ind, and the function of both.
+const LIFT_MAJOR: u32 = 5;
+
+const IND_MAJOR: u32 = 4;
+
+const QUOT_FUNCTION: u32 = 3;
 
 // A side reduction's refusal, handed up.
 fn as_answer(r: Reduced) -> Answer
@@ -184,10 +198,11 @@ fn quot_major(
     let FieldFound::Found(a) = found else {
         return Answer::Final(m1);
     };
-    let f = argument(library, &scratch[..], t, count, 3);
+    let f = argument(library, &scratch[..], t, count, QUOT_FUNCTION);
     give_with(library, scratch, g, m1, f, a, t, count, position + 1)
 }
 
+// Which of the two quotient rules the role asks for, if any.
 fn reduce_quot(
     library: &[u32],
     decls: &[u32],
@@ -215,7 +230,7 @@ fn reduce_quot(
             scratch,
             g,
             m,
-            5,
+            LIFT_MAJOR,
             t,
             count,
             nesting,
@@ -230,7 +245,7 @@ fn reduce_quot(
             scratch,
             g,
             m,
-            4,
+            IND_MAJOR,
             t,
             count,
             nesting,
@@ -312,13 +327,13 @@ fn reduce_rec(
 fn is_tried(g: Given, role: u32) -> bool
     ensures { λ r. ⌜ r ≡ isTried (g .holders) role ⌝ }
 {
-    if role < 9 {
+    if role < ADD {
         return false;
     }
-    if 15 < role {
+    if BLE < role {
         return false;
     }
-    if role < 14 {
+    if role < BEQ {
         return true;
     }
     let holders = g.holders;

@@ -11,5 +11,8 @@ pub mod Firings
 pub mod HeadTests
 pub mod HeadRules
 pub mod Refusals
+pub mod Inference
+pub mod InferRefusals
 pub mod Call
+pub mod InferCall
 pub mod ReadOut

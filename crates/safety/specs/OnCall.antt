@@ -28,10 +28,10 @@ pub record SameLeft (l l′ : Left) : Type 0 where
 left-same : {l l′ : Left} → SameLeft l l′ → l ≡ l′
 left-same z = λ i. record { mark = z .mark i; scratch = z .scratch i; context = z .context i }
 
-untouched-same : {w : Lent} {l l′ : Left} → Untouched w l → Untouched w l′ → l ≡ l′
+pub untouched-same : {w : Lent} {l l′ : Left} → Untouched w l → Untouched w l′ → l ≡ l′
 untouched-same a b = left-same (record { mark = a .mark ∙ sym (b .mark); scratch = a .scratch ∙ sym (b .scratch); context = a .context ∙ sym (b .context) })
 
-zeroed-same : {w : Lent} {l l′ : Left} → Zeroed w l → Zeroed w l′ → l ≡ l′
+pub zeroed-same : {w : Lent} {l l′ : Left} → Zeroed w l → Zeroed w l′ → l ≡ l′
 zeroed-same a b = left-same (record { mark = a .mark ∙ sym (b .mark); scratch = a .scratch ∙ sym (b .scratch); context = a .context ∙ sym (b .context) })
 
 -- two lists that agree on their first m records of nine words, and on the n records after those, agree on all m + n
@@ -50,7 +50,7 @@ grown-rows {s = s} {s′} a b i h =
     let there = nth-there s′ (length s + i) no-cell (omega arith) in
     row-words-same (a .rows i _ there) (b .rows i _ there)
 
-grown-same : {w : Lent} {s s′ : Store} {l l′ : Left} → Grown w s s′ l → Grown w s s′ l′ → l ≡ l′
+pub grown-same : {w : Lent} {s s′ : Store} {l l′ : Left} → Grown w s s′ l → Grown w s s′ l′ → l ≡ l′
 grown-same {w} {s} {s′} {l} {l′} a b = left-same (record { mark = same-mark; scratch = same-scratch; context = a .context ∙ sym (b .context) })
   where
     n : ℕ

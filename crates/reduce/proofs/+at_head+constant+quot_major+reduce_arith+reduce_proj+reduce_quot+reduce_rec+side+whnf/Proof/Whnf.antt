@@ -16,9 +16,21 @@ whnf-μ-loop library decls rules context scratch₀ g nesting at₀ p₀ scratch
 
 -- PLACES
 
--- the loop's head, and the rules tried there
-abbrev head : (t : ℕ) → whnf-lts.After-at-head (whnf-claims t) (whnf-at t) whnf.Post whnf-Inv-loop whnf-μ-loop → whnf-lts.At-loop (whnf-claims t) (whnf-at t) whnf.Post whnf-Inv-loop whnf-μ-loop
-head t c = c .before .before
+-- a place of the code
+module _ (t : ℕ) where
+  abbrev Tried : Type 0
+  Tried = whnf-lts.After-at-head (whnf-claims t) (whnf-at t) whnf.Post whnf-Inv-loop whnf-μ-loop
+
+  abbrev Answered : Type 0
+  Answered = whnf-lts.After-slice-known2 (whnf-claims t) (whnf-at t) whnf.Post whnf-Inv-loop whnf-μ-loop
+
+  -- the rules were tried at the head, and what they answered is looked at
+  abbrev tried : Answered → Tried
+  tried c = c .before .before
+
+  -- the loop's head from there
+  abbrev head : Tried → whnf-lts.At-loop (whnf-claims t) (whnf-at t) whnf.Post whnf-Inv-loop whnf-μ-loop
+  head c = c .before .before
 
 pub whnf-loop-holds : (t : ℕ) → whnf-lts.Need-loop-holds (whnf-claims t) (whnf-at t) whnf.Post whnf-Inv-loop whnf-μ-loop
 whnf-loop-holds t c = going-begins _ (c .before .before .before .before .before .pre .1)
@@ -32,25 +44,25 @@ pub whnf-enum-known-q : (t : ℕ) → whnf-lts.Need-enum-known-q (whnf-claims t)
 whnf-enum-known-q t c = search needs
 
 pub whnf-loop-less : (t : ℕ) → whnf-lts.Need-loop-less (whnf-claims t) (whnf-at t) whnf.Post whnf-Inv-loop whnf-μ-loop
-whnf-loop-less t c = let tried = c .before .before .before .before .before in fewer-left (head t tried .loop .inv) (tried .at-head .ensures) (c .before .q .given .1)
+whnf-loop-less t c = let asked = tried t (c .before .before .before) in fewer-left (head t asked .loop .inv) (asked .at-head .ensures) (c .before .q .given .1)
 
 pub whnf-loop-again : (t : ℕ) → whnf-lts.Need-loop-again (whnf-claims t) (whnf-at t) whnf.Post whnf-Inv-loop whnf-μ-loop
-whnf-loop-again t c = let tried = c .before .before .before .before .before in going-on (head t tried .loop .inv) (tried .at-head .ensures) (c .before .q .given .1)
+whnf-loop-again t c = let asked = tried t (c .before .before .before) in going-on (head t asked .loop .inv) (asked .at-head .ensures) (c .before .q .given .1)
 
 pub whnf-enum-known-m1 : (t : ℕ) → whnf-lts.Need-enum-known-m1 (whnf-claims t) (whnf-at t) whnf.Post whnf-Inv-loop whnf-μ-loop
 whnf-enum-known-m1 t c = search needs
 
 pub whnf-same-length : (t : ℕ) → whnf-lts.Need-same-length (whnf-claims t) (whnf-at t) whnf.Post whnf-Inv-loop whnf-μ-loop
-whnf-same-length t c = let tried = c .before .before .before .before .before in going-length (head t tried .loop .inv) (tried .at-head .ensures)
+whnf-same-length t c = let asked = tried t (c .before .before .before) in going-length (head t asked .loop .inv) (asked .at-head .ensures)
 
 pub whnf-returns : (t : ℕ) → whnf-lts.Need-returns (whnf-claims t) (whnf-at t) whnf.Post whnf-Inv-loop whnf-μ-loop
-whnf-returns t c = let tried = c .before .before .before .before .before in going-ends (head t tried .loop .inv) (tried .at-head .ensures) (c .before .m1 .given .1)
+whnf-returns t c = let asked = tried t (c .before .before .before) in going-ends (head t asked .loop .inv) (asked .at-head .ensures) (c .before .m1 .given .1)
 
 pub whnf-enum-known-k : (t : ℕ) → whnf-lts.Need-enum-known-k (whnf-claims t) (whnf-at t) whnf.Post whnf-Inv-loop whnf-μ-loop
 whnf-enum-known-k t c = search needs
 
 pub whnf-same-length-2 : (t : ℕ) → whnf-lts.Need-same-length-2 (whnf-claims t) (whnf-at t) whnf.Post whnf-Inv-loop whnf-μ-loop
-whnf-same-length-2 t c = let tried = c .before .before .before .before .before in going-length (head t tried .loop .inv) (tried .at-head .ensures)
+whnf-same-length-2 t c = let asked = tried t (c .before .before .before) in going-length (head t asked .loop .inv) (asked .at-head .ensures)
 
 pub whnf-returns-2 : (t : ℕ) → whnf-lts.Need-returns-2 (whnf-claims t) (whnf-at t) whnf.Post whnf-Inv-loop whnf-μ-loop
-whnf-returns-2 t c = let tried = c .before .before .before .before .before in going-stops (head t tried .loop .inv) (tried .at-head .ensures) (c .before .k .given .1)
+whnf-returns-2 t c = let asked = tried t (c .before .before .before) in going-stops (head t asked .loop .inv) (asked .at-head .ensures) (c .before .k .given .1)
