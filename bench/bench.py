@@ -10,7 +10,7 @@ import os, platform, re, subprocess, sys, tempfile, time
 ROOT = os.path.dirname(os.path.dirname(os.path.abspath(__file__)))
 PROGRAM = os.path.join(ROOT, "target", "bin", "run")
 SIZES = [1000, 8000, 64000]
-# Under the emulator a count of instructions takes minutes where the library is large: reading its text is what costs.
+# Under the emulator a count for the largest library takes an hour: reading its text is what costs.
 COUNTED = SIZES if platform.machine() == "x86_64" else SIZES[:2]
 
 
@@ -124,25 +124,37 @@ def instructions(text):
         return int(subprocess.run(counted, shell=True, capture_output=True, text=True).stdout)
 
 
-def measure(t, term, size, budget):
+def steps_of(text, budget):
+    answer = run(text)[0].split("\n")[0]
+    return budget if answer.startswith("refused 4") else int(re.search(r"steps (\d+)", answer)[1])
+
+
+def each_step(t, term, size, budget):
+    """instructions per step, and those of reading the text and of acceptance"""
     calls = ([f"steps {budget}"] if budget else []) + [f"whnf {term} 0"]
     text, idle = t.text(size, calls), t.text(size, ["whnf 0 0"])
-    answer = run(text)[0].split("\n")[0]
-    steps = budget if answer.startswith("refused 4") else int(re.search(r"steps (\d+)", answer)[1])
-    quick = min(run(text)[1] for _ in range(3)) - min(run(idle)[1] for _ in range(3))
-    if size not in COUNTED:
-        return f"{steps:,}", "not counted", f"{steps / max(quick, 1e-9):,.0f}", "not counted"
     resting = instructions(idle)
-    return f"{steps:,}", f"{(instructions(text) - resting) / steps:,.0f}", f"{steps / max(quick, 1e-9):,.0f}", f"{resting:,}"
+    return (instructions(text) - resting) / steps_of(text, budget), resting
+
+
+def per_second(t, term, budget):
+    """by the clock, over many calls on the smallest library; every other call takes no step, and its time is taken off"""
+    often = 50
+    asked = (["steps 1000000"] if budget else []) + ["mark 0", f"whnf {term} 0"]
+    text, idle = t.text(SIZES[0], asked * often), t.text(SIZES[0], ["mark 0", "whnf 0 0"] * often)
+    steps = often * steps_of(text, 1000000)
+    return steps / (min(run(text)[1] for _ in range(3)) - min(run(idle)[1] for _ in range(3)))
 
 
 def main():
-    print("| load | library rows | steps | instructions per step | steps per second | instructions of reading and acceptance |")
-    print("|---|---|---|---|---|---|")
+    print("| load | library rows | instructions per step | instructions of reading and acceptance | steps per second |")
+    print("|---|---|---|---|---|")
     for name, t, term, budget in (beta_chain(), recursor(), arithmetic()):
-        for size in SIZES:
-            steps, each, rate, resting = measure(t, term, size, budget)
-            print(f"| {name} | {size:,} | {steps} | {each} | {rate} | {resting} |")
+        rate = f"{per_second(t, term, budget):,.0f}"
+        for size in COUNTED:
+            each, resting = each_step(t, term, size, budget)
+            print(f"| {name} | {size:,} | {each:,.0f} | {resting:,} | {rate} |")
+            rate = ""
             sys.stdout.flush()
 
 
