@@ -137,25 +137,107 @@ abbrev pub whnf-below : ℕ → In 5 whnf-kinds.ps
 whnf-below t = and 5 whnf-kinds.ps (falls 5 whnf-kinds.ps _<_ μ-whnf t) whnf.Pre
 
 abbrev pub at-head-claims : ℕ → at-head-lts.Claims
-at-head-claims t = (head-of-reads.Asked, head-of-reads.Learnt, row-at-reads.Asked, row-at-reads.Learnt, shape-of-reads.Asked, shape-of-reads.Learnt, variable-reads.Asked, variable-reads.Learnt, constant-below t, constant.Post, argument-reads.Asked, argument-reads.Learnt, open-reads.Asked, open-reads.Learnt, shift-up-reads.Asked, shift-up-reads.Learnt, reduce-proj-below t, reduce-proj.Post)
+at-head-claims t = (
+  head-of-reads.Asked,
+  head-of-reads.Learnt,
+  row-at-reads.Asked,
+  row-at-reads.Learnt,
+  shape-of-reads.Asked,
+  shape-of-reads.Learnt,
+  variable-reads.Asked,
+  variable-reads.Learnt,
+  constant-below t,
+  constant.Post,
+  argument-reads.Asked,
+  argument-reads.Learnt,
+  open-reads.Asked,
+  open-reads.Learnt,
+  shift-up-reads.Asked,
+  shift-up-reads.Learnt,
+  reduce-proj-below t,
+  reduce-proj.Post,
+)
 
 abbrev pub constant-claims : ℕ → constant-lts.Claims
-constant-claims t = (reduce-quot-below t, reduce-quot.Post, reduce-rec-below t, reduce-rec.Post, reduce-arith-below t, reduce-arith.Post, decl-at-reads.Asked, decl-at-reads.Learnt, unfold-def-reads.Asked, unfold-def-reads.Learnt)
+constant-claims t = (
+  reduce-quot-below t,
+  reduce-quot.Post,
+  reduce-rec-below t,
+  reduce-rec.Post,
+  reduce-arith-below t,
+  reduce-arith.Post,
+  decl-at-reads.Asked,
+  decl-at-reads.Learnt,
+  unfold-def-reads.Asked,
+  unfold-def-reads.Learnt,
+)
 
 abbrev pub quot-major-claims : ℕ → quot-major-lts.Claims
-quot-major-claims t = (argument-reads.Asked, argument-reads.Learnt, side-below t, side.Post, as-answer-reads.Asked, as-answer-reads.Learnt, quot-made-reads.Asked, quot-made-reads.Learnt, give-with-reads.Asked, give-with-reads.Learnt)
+quot-major-claims t = (
+  argument-reads.Asked,
+  argument-reads.Learnt,
+  side-below t,
+  side.Post,
+  as-answer-reads.Asked,
+  as-answer-reads.Learnt,
+  quot-made-reads.Asked,
+  quot-made-reads.Learnt,
+  give-with-reads.Asked,
+  give-with-reads.Learnt,
+)
 
 abbrev pub reduce-arith-claims : ℕ → reduce-arith-lts.Claims
-reduce-arith-claims t = (decl-at-reads.Asked, decl-at-reads.Learnt, is-tried-reads.Asked, is-tried-reads.Learnt, argument-reads.Asked, argument-reads.Learnt, side-below t, side.Post, as-answer-reads.Asked, as-answer-reads.Learnt, number-at-reads.Asked, number-at-reads.Learnt, op-of-reads.Asked, op-of-reads.Learnt, compute-reads.Asked, compute-reads.Learnt, write-outcome-reads.Asked, write-outcome-reads.Learnt)
+reduce-arith-claims t = (
+  decl-at-reads.Asked,
+  decl-at-reads.Learnt,
+  is-tried-reads.Asked,
+  is-tried-reads.Learnt,
+  argument-reads.Asked,
+  argument-reads.Learnt,
+  side-below t,
+  side.Post,
+  as-answer-reads.Asked,
+  as-answer-reads.Learnt,
+  number-at-reads.Asked,
+  number-at-reads.Learnt,
+  op-of-reads.Asked,
+  op-of-reads.Learnt,
+  compute-reads.Asked,
+  compute-reads.Learnt,
+  write-outcome-reads.Asked,
+  write-outcome-reads.Learnt,
+)
 
 abbrev pub reduce-proj-claims : ℕ → reduce-proj-lts.Claims
-reduce-proj-claims t = (side-below t, side.Post, as-answer-reads.Asked, as-answer-reads.Learnt, field-at-reads.Asked, field-at-reads.Learnt, give-reads.Asked, give-reads.Learnt)
+reduce-proj-claims t = (
+  side-below t,
+  side.Post,
+  as-answer-reads.Asked,
+  as-answer-reads.Learnt,
+  field-at-reads.Asked,
+  field-at-reads.Learnt,
+  give-reads.Asked,
+  give-reads.Learnt,
+)
 
 abbrev pub reduce-quot-claims : ℕ → reduce-quot-lts.Claims
 reduce-quot-claims t = (decl-at-reads.Asked, decl-at-reads.Learnt, quot-major-below t, quot-major.Post)
 
 abbrev pub reduce-rec-claims : ℕ → reduce-rec-lts.Claims
-reduce-rec-claims t = (decl-at-reads.Asked, decl-at-reads.Learnt, argument-reads.Asked, argument-reads.Learnt, side-below t, side.Post, as-answer-reads.Asked, as-answer-reads.Learnt, constructor-of-reads.Asked, constructor-of-reads.Learnt, by-rule-reads.Asked, by-rule-reads.Learnt)
+reduce-rec-claims t = (
+  decl-at-reads.Asked,
+  decl-at-reads.Learnt,
+  argument-reads.Asked,
+  argument-reads.Learnt,
+  side-below t,
+  side.Post,
+  as-answer-reads.Asked,
+  as-answer-reads.Learnt,
+  constructor-of-reads.Asked,
+  constructor-of-reads.Learnt,
+  by-rule-reads.Asked,
+  by-rule-reads.Learnt,
+)
 
 abbrev pub side-claims : ℕ → side-lts.Claims
 side-claims t = (whnf-below t, whnf.Post)

@@ -56,8 +56,14 @@ module _ (t : ℕ) (c : reduce-rec-lts.After-decl-at (reduce-rec-claims t) (redu
 
 -- it is a recursor's, with the right count of levels, and there is an argument at the major's position
 module _ (t : ℕ) (c : reduce-rec-lts.Else3 (reduce-rec-claims t) (reduce-rec-at t) reduce-rec.Post) where
+  abbrev kind-tested : reduce-rec-lts.Else2 (reduce-rec-claims t) (reduce-rec-at t) reduce-rec.Post
+  kind-tested = c .before .before .before .before .before
+
+  abbrev levels-tested : reduce-rec-lts.Else1 (reduce-rec-claims t) (reduce-rec-at t) reduce-rec.Post
+  levels-tested = kind-tested .before .before
+
   abbrev read : reduce-rec-lts.After-decl-at (reduce-rec-claims t) (reduce-rec-at t) reduce-rec.Post
-  read = c .before .before .before .before .before .before .before .before .before
+  read = levels-tested .before .before
 
 -- the major was read
 module _ (t : ℕ) (c : reduce-rec-lts.After-argument (reduce-rec-claims t) (reduce-rec-at t) reduce-rec.Post) where
@@ -67,8 +73,8 @@ module _ (t : ℕ) (c : reduce-rec-lts.After-argument (reduce-rec-claims t) (red
   majored : Majors t (start t (read t tested)) (read t tested .decl-at .result) (c .argument .result)
   majored = record {
     opened = opened t (read t tested);
-    levelled = tested .before .before .before .before .before .before .before .if1 .left;
-    kind = tested .before .before .before .before .before .if2 .left;
+    levelled = levels-tested t tested .if1 .left;
+    kind = kind-tested t tested .if2 .left;
     inside = tested .if3 .left;
     major = c .argument .ensures;
   }
