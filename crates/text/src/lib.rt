@@ -53,13 +53,21 @@ pub fn start() -> Reader {
     }
 }
 
+// The byte of the digit 0, and the largest number that a text may have.
+const ZERO: u64 = 48;
+
+const LARGEST: u64 = 4294967295;
+
+// A word of seven letters: an eighth does not fit any more.
+const SEVEN_LETTERS: u64 = 0x1_0000_0000_0000;
+
 // One digit more, given as its byte.
 fn with_digit(number: u32, digit: u8) -> Digits
     requires { ⌜ isDigit digit ≡ true ⌝ }
     ensures { λ r. ⌜ r ≡ withDigit number digit ⌝ }
 {
-    let longer = 10 * (number as u64) + (digit as u64 - 48);
-    if 4294967295 < longer {
+    let longer = 10 * (number as u64) + (digit as u64 - ZERO);
+    if LARGEST < longer {
         return Digits::TooLarge;
     }
     Digits::Value(longer as u32)
@@ -69,7 +77,7 @@ fn with_digit(number: u32, digit: u8) -> Digits
 fn with_letter(word: u64, letter: u8) -> u64
     ensures { λ r. ⌜ r ≡ withLetter word letter ⌝ }
 {
-    if 0x1_0000_0000_0000 <= word {
+    if SEVEN_LETTERS <= word {
         return LONG;
     }
     256 * word + (letter as u64)
