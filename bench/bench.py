@@ -143,14 +143,15 @@ def per_second(t, term, budget):
     asked = (["steps 1000000"] if budget else []) + ["mark 0", f"whnf {term} 0"]
     text, idle = t.text(SIZES[0], asked * often), t.text(SIZES[0], ["mark 0", "whnf 0 0"] * often)
     steps = often * steps_of(text, 1000000)
-    return steps / (min(run(text)[1] for _ in range(3)) - min(run(idle)[1] for _ in range(3)))
+    took = min(run(text)[1] for _ in range(3)) - min(run(idle)[1] for _ in range(3))
+    return f"{steps / took:,.0f}" if 0.05 < took else "too short to be timed"
 
 
 def main():
     print("| load | library rows | instructions per step | instructions of reading and acceptance | steps per second |")
     print("|---|---|---|---|---|")
     for name, t, term, budget in (beta_chain(), recursor(), arithmetic()):
-        rate = f"{per_second(t, term, budget):,.0f}"
+        rate = per_second(t, term, budget)
         for size in COUNTED:
             each, resting = each_step(t, term, size, budget)
             print(f"| {name} | {size:,} | {each:,.0f} | {resting:,} | {rate} |")
