@@ -51,7 +51,8 @@ module _ (ρ : ℕ → ℕ) where
   same-count (some v) = refl
 
   -- the fields' results are the new row's fields
-  row-renamed : {κ : Kind} (x y z : Ptr) {x̃ ỹ z̃ : Ptr} → renField ρ (fields κ .first) x ≡ x̃ → renField ρ (fields κ .second) y ≡ ỹ → renField ρ (fields κ .third) z ≡ z̃ →
+  row-renamed : {κ : Kind} (x y z : Ptr) {x̃ ỹ z̃ : Ptr} → renField ρ (fields κ .first) x ≡ x̃ → renField ρ (fields κ .second) y ≡ ỹ →
+      renField ρ (fields κ .third) z ≡ z̃ →
       renRow ρ (node κ x y z) ≡ node κ x̃ ỹ z̃
   unfolding renRow
   row-renamed {κ} x y z p q r = λ i. node κ (p i) (q i) (r i)

@@ -126,7 +126,8 @@ spine-stands {s} {h = h} f o p =
 
 -- A FIRING
 
-due-stands : {s s̃ : Store} {r r̃ : Result} {xs x̃s : List Ptr} {g : Got} → ResultLike standing s s̃ r r̃ → Each (λ (p p̃ : Ptr). Good s p) xs x̃s → Formed s → Due s r xs g → Kept s g
+due-stands : {s s̃ : Store} {r r̃ : Result} {xs x̃s : List Ptr} {g : Got} → ResultLike standing s s̃ r r̃ →
+    Each (λ (p p̃ : Ptr). Good s p) xs x̃s → Formed s → Due s r xs g → Kept s g
 due-stands (opened-like b v) q f d = due-keeps {D = 0} f (opened-good b v) (stand-all q) d
 due-stands (itself-like p) q f d = due-keeps {D = 0} f (itself-good p) (stand-all q) d
 due-stands number-like q f d = due-keeps {D = 0} f number-good (stand-all q) d

@@ -110,7 +110,8 @@ module _ (L : Likeness) where
   unfolding delta
   delta-twin n d q = with-twin _ _ (unfolds-like L n d) λ v ṽ b. both-fire (itself-like b) q
 
-  constant-twin : {s s̃ : Store} {e ẽ : Env} {D D̃ : Decl} {xs x̃s : List Ptr} (n : ℕ) → L .stores s s̃ → EnvLike L s s̃ e ẽ → DeclLike L s s̃ D D̃ → Each (L .pointers s s̃) xs x̃s →
+  constant-twin : {s s̃ : Store} {e ẽ : Env} {D D̃ : Decl} {xs x̃s : List Ptr} (n : ℕ) → L .stores s s̃ → EnvLike L s s̃ e ẽ →
+      DeclLike L s s̃ D D̃ → Each (L .pointers s s̃) xs x̃s →
       Twin s s̃ (constant e D n xs) (constant ẽ D̃ n x̃s)
   unfolding constant
   constant-twin n a v d q =

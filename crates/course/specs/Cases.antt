@@ -47,19 +47,25 @@ decls =
 pub library : Store
 library = grow [] (
     leaf (sort 0) ∷ leaf (sort 1) ∷ var 0 ∷ var 1 ∷ var 2 ∷ leaf (const 0 0) ∷ leaf (const 1 0) ∷ leaf (const 2 0) ∷ leaf (const 5 0) ∷ leaf (const 15 0) ∷
-    leaf (num 0) ∷ leaf (num 2) ∷ leaf (num 3) ∷ leaf (num 9223372036854775808) ∷ node lam (at 0) (at 2) blank ∷ node lam (at 0) (at 3) blank ∷ node lam (at 0) (at 15) blank ∷ node lam (at 0) (at 5) blank ∷ ap′ 14 1 ∷ ap′ 14 5 ∷
-    ap′ 19 1 ∷ ap′ 16 1 ∷ ap′ 21 5 ∷ ap′ 2 3 ∷ node lam (at 0) (at 23) blank ∷ node app (ptr 24 2) (at 3) blank ∷ node let′ (at 0) (at 2) (at 23) ∷ node app (ptr 26 2) (at 5) blank ∷ ap′ 2 5 ∷ ap′ 9 0 ∷
-    ap′ 29 5 ∷ ap′ 30 1 ∷ node (proj 16 0) (at 31) blank blank ∷ node (proj 16 1) (at 31) blank blank ∷ node (proj 16 2) (at 31) blank blank ∷ node (proj 16 0) (at 5) blank blank ∷ node lam (at 0) (at 31) blank ∷ ap′ 36 0 ∷ node (proj 16 0) (at 37) blank blank ∷ ap′ 17 0 ∷
+    leaf (num 0) ∷ leaf (num 2) ∷ leaf (num 3) ∷ leaf (num 9223372036854775808) ∷ node lam (at 0) (at 2) blank ∷
+    node lam (at 0) (at 3) blank ∷ node lam (at 0) (at 15) blank ∷ node lam (at 0) (at 5) blank ∷ ap′ 14 1 ∷ ap′ 14 5 ∷
+    ap′ 19 1 ∷ ap′ 16 1 ∷ ap′ 21 5 ∷ ap′ 2 3 ∷ node lam (at 0) (at 23) blank ∷ node app (ptr 24 2) (at 3) blank ∷
+    node let′ (at 0) (at 2) (at 23) ∷ node app (ptr 26 2) (at 5) blank ∷ ap′ 2 5 ∷ ap′ 9 0 ∷
+    ap′ 29 5 ∷ ap′ 30 1 ∷ node (proj 16 0) (at 31) blank blank ∷ node (proj 16 1) (at 31) blank blank ∷
+    node (proj 16 2) (at 31) blank blank ∷ node (proj 16 0) (at 5) blank blank ∷ node lam (at 0) (at 31) blank ∷ ap′ 36 0 ∷ node (proj 16 0) (at 37) blank blank ∷ ap′ 17 0 ∷
     node (proj 16 0) (at 39) blank blank ∷ ap′ 8 0 ∷ ap′ 41 0 ∷ ap′ 42 1 ∷ leaf (const 6 0) ∷ ap′ 44 0 ∷ ap′ 45 0 ∷ ap′ 46 0 ∷ ap′ 47 5 ∷ ap′ 48 0 ∷
     ap′ 49 43 ∷ ap′ 50 0 ∷ ap′ 49 5 ∷ ap′ 49 42 ∷ leaf (const 7 0) ∷ ap′ 54 0 ∷ ap′ 55 0 ∷ ap′ 56 0 ∷ ap′ 57 5 ∷ ap′ 58 43 ∷
     leaf (const 17 0) ∷ ap′ 60 1 ∷ ap′ 61 5 ∷ ap′ 62 31 ∷ ap′ 63 0 ∷ leaf (const 18 0) ∷ ap′ 65 10 ∷ ap′ 65 11 ∷ ap′ 65 6 ∷ ap′ 65 5 ∷
     ap′ 65 17 ∷ leaf (const 18 1) ∷ ap′ 71 10 ∷ leaf (const 21 0) ∷ ap′ 73 11 ∷ leaf (const 22 0) ∷ ap′ 75 10 ∷ leaf (const 23 0) ∷ ap′ 77 6 ∷ ap′ 77 5 ∷
-    leaf (const 8 0) ∷ leaf (const 9 0) ∷ leaf (const 10 0) ∷ leaf (const 11 0) ∷ leaf (const 12 0) ∷ leaf (const 13 0) ∷ leaf (const 14 0) ∷ ap′ 80 11 ∷ ap′ 87 12 ∷ ap′ 81 12 ∷
+    leaf (const 8 0) ∷ leaf (const 9 0) ∷ leaf (const 10 0) ∷ leaf (const 11 0) ∷ leaf (const 12 0) ∷ leaf (const 13 0) ∷ leaf (const 14 0) ∷
+    ap′ 80 11 ∷ ap′ 87 12 ∷ ap′ 81 12 ∷
     ap′ 89 11 ∷ ap′ 82 11 ∷ ap′ 91 12 ∷ ap′ 83 12 ∷ ap′ 93 11 ∷ ap′ 83 12 ∷ ap′ 95 10 ∷ ap′ 84 12 ∷ ap′ 97 10 ∷ ap′ 84 12 ∷
     ap′ 99 11 ∷ ap′ 85 11 ∷ ap′ 101 11 ∷ ap′ 86 12 ∷ ap′ 103 11 ∷ ap′ 82 13 ∷ ap′ 105 11 ∷ ap′ 88 11 ∷ ap′ 80 5 ∷ ap′ 108 106 ∷
     ap′ 80 88 ∷ ap′ 110 11 ∷ ap′ 80 11 ∷ ap′ 112 5 ∷ ap′ 80 6 ∷ ap′ 114 11 ∷ ap′ 84 5 ∷ ap′ 116 5 ∷ ap′ 7 11 ∷ leaf (const 19 0) ∷
-    ap′ 119 1 ∷ leaf (const 24 0) ∷ leaf (const 24 1) ∷ node pi (at 0) (at 2) blank ∷ ap′ 123 0 ∷ ap′ 11 0 ∷ ap′ 5 3 ∷ node lam (at 0) (at 126) blank ∷ node lam (at 0) (at 127) blank ∷ node app (at 128) (ptr 2 4095) blank ∷
-    ap′ 4 3 ∷ node lam (at 0) (at 130) blank ∷ node lam (at 0) (at 131) blank ∷ node app (at 132) (ptr 2 4095) blank ∷ ap′ 80 106 ∷ ap′ 134 111 ∷ ap′ 80 111 ∷ ap′ 136 106 ∷ node (proj 16 0) (at 106) blank blank ∷ [])
+    ap′ 119 1 ∷ leaf (const 24 0) ∷ leaf (const 24 1) ∷ node pi (at 0) (at 2) blank ∷ ap′ 123 0 ∷ ap′ 11 0 ∷ ap′ 5 3 ∷
+    node lam (at 0) (at 126) blank ∷ node lam (at 0) (at 127) blank ∷ node app (at 128) (ptr 2 4095) blank ∷
+    ap′ 4 3 ∷ node lam (at 0) (at 130) blank ∷ node lam (at 0) (at 131) blank ∷ node app (at 132) (ptr 2 4095) blank ∷ ap′ 80 106 ∷
+    ap′ 134 111 ∷ ap′ 80 111 ∷ ap′ 136 106 ∷ node (proj 16 0) (at 106) blank blank ∷ [])
 
 abbrev no-value : Entry
 no-value = record { type = at 0; value = none }

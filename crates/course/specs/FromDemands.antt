@@ -96,7 +96,8 @@ module _ (e : Env) where
           on-writes P _ _ (λ x now w′ z. number-row h (quot-missed e (quot-end e u₁)) q s b w′ z)
           (on-with P (byRule (parts .of) xs c) _ λ x ρ u. absurd (never-fires u))
 
-      of-arith : (m₁ m₂ : Tally) → Understood e d m (quot e D xs) m₁ missed → Understood e d m₁ (recursion e D n xs) m₂ missed → {a : Demand} {m′ : Tally} → Asked d m₂ (arithmetic e D xs) a m′ → P a m′
+      of-arith : (m₁ m₂ : Tally) → Understood e d m (quot e D xs) m₁ missed → Understood e d m₁ (recursion e D n xs) m₂ missed → {a : Demand} {m′ : Tally} →
+          Asked d m₂ (arithmetic e D xs) a m′ → P a m′
       of-arith m₁ m₂ u₁ u₂ =
           on-with P (operands e D xs) _ λ ab q.
           on-side P _ (λ s. first-number h (quot-missed e (quot-end e u₁)) (rec-missed e (rec-end e u₂)) q s) λ m₃ w ys s.
