@@ -61,7 +61,8 @@ fn reduce(
     nesting: u32,
 ) -> Answered
     requires { ⌜ AcceptedAs (now library) (now declarations) (now rules) (now context) depth (now scratch) mark term steps nesting ⌝ }
-    ensures { λ r. ⌜ Answers (now (library .entry)) (now (declarations .entry)) (now (rules .entry)) (now (context .entry)) depth (now (scratch .entry)) mark term steps nesting r (now (scratch .exit)) (now (context .exit)) ⌝ }
+    ensures { λ r. ⌜ Answers (now (library .entry)) (now (declarations .entry)) (now (rules .entry)) (now (context .entry)) depth
+        (now (scratch .entry)) mark term steps nesting r (now (scratch .exit)) (now (context .exit)) ⌝ }
 {
     let g = given(library, declarations, depth, steps);
     let m = Meter { mark, steps: 0 };
@@ -99,7 +100,8 @@ pub fn whnf(
     steps: u32,
     nesting: u32,
 ) -> Answered
-    ensures { λ r. ⌜ Answers (now (library .entry)) (now (declarations .entry)) (now (rules .entry)) (now (context .entry)) depth (now (scratch .entry)) mark term steps nesting r (now (scratch .exit)) (now (context .exit)) ⌝ }
+    ensures { λ r. ⌜ Answers (now (library .entry)) (now (declarations .entry)) (now (rules .entry)) (now (context .entry)) depth
+        (now (scratch .entry)) mark term steps nesting r (now (scratch .exit)) (now (context .exit)) ⌝ }
 {
     match accept(
         library,

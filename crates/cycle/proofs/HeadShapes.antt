@@ -28,7 +28,8 @@ use Rattle.cycle.proofs.Heads.{head-at}
 use Rattle.cycle.proofs.Binders.{no-rule-tried}
 
 -- kinds that no rule is for, and words that are no kind
-no-rule-row : (e : Env) (st : Store) (j : ℕ) (xs : List rules.Ptr) (k : ℕ) (a b c : rules.Ptr) → (k ≡ 0 → ⊥) → (k ≡ 2 → ⊥) → (k ≡ 4 → ⊥) → (k ≡ 6 → ⊥) → (k ≡ 7 → ⊥) →
+no-rule-row : (e : Env) (st : Store) (j : ℕ) (xs : List rules.Ptr) (k : ℕ) (a b c : rules.Ptr) → (k ≡ 0 → ⊥) → (k ≡ 2 → ⊥) → (k ≡ 4 → ⊥) →
+    (k ≡ 6 → ⊥) → (k ≡ 7 → ⊥) →
     atRow e st j xs (rowBy k a b c) ≡ no-rule
 unfolding atRow rowBy kindOf tagsAt table
 no-rule-row e st j xs zero a b c h₀ h₂ h₄ h₆ h₇ = absurd (h₀ refl)

@@ -67,7 +67,8 @@ no-step lim m r xs h = go (cmp (lim .steps) (m .steps))
     go (over l) = absurd (omega arith)
 
 -- where the step is there and no number is written, the rows follow
-pub itself-fires : (lim : Limits) (m : Tally) (p : rules.Ptr) (xs : List rules.Ptr) → m .steps < lim .steps → outStep lim (m .steps) (joinIn (lim .rows) (m .store) p xs) ≡ fireIn lim m (itself p) xs
+pub itself-fires : (lim : Limits) (m : Tally) (p : rules.Ptr) (xs : List rules.Ptr) → m .steps < lim .steps →
+    outStep lim (m .steps) (joinIn (lim .rows) (m .store) p xs) ≡ fireIn lim m (itself p) xs
 unfolding fireIn numberView dueIn giveIn
 itself-fires lim m p xs h = go (cmp (lim .steps) (m .steps))
   where

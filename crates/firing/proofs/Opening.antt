@@ -58,7 +58,8 @@ module _ (l sc : List ℕ) (m : Meter) (p : Ptr) (mark : ℕ) (sc₁ : List ℕ)
       }
 
   -- the term, headed again in the grown store
-  pub headed-after : (g : Given) (t : Ptr) (count : ℕ) (h : Headed l sc g m t count) → Ext (storeOf l sc (m .mark)) (storeOf l sc₁ mark) → AllPass (h .used .declarations) (storeOf l sc₁ mark) →
+  pub headed-after : (g : Given) (t : Ptr) (count : ℕ) (h : Headed l sc g m t count) → Ext (storeOf l sc (m .mark)) (storeOf l sc₁ mark) →
+      AllPass (h .used .declarations) (storeOf l sc₁ mark) →
       Headed l sc₁ g (record { mark = mark; steps = m .steps }) t count
   headed-after g t count h e a =
       let old = h .used in

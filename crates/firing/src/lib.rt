@@ -40,7 +40,9 @@ fn apply_rest(
 ) -> Answer
     requires { ⌜ Headed (now library) (now scratch) g m t count ⌝ }
     requires { ⌜ (f .row < g .nlib + m .mark) × (from ≤ count) × (m .steps < g .steps) ⌝ }
-    ensures { λ r. ⌜ Left (now (library .entry)) (now (scratch .entry)) m r (now (scratch .exit)) (outStep (limitsIn g (now (scratch .entry))) (m .steps) (joinIn (g .nlib + length (now (scratch .entry)) / 9) (storeOf (now (library .entry)) (now (scratch .entry)) (m .mark)) (ptrOf f) (drop from (argsOf (storeOf (now (library .entry)) (now (scratch .entry)) (m .mark)) (ptrOf t))))) ⌝ }
+    ensures { λ r. ⌜ Left (now (library .entry)) (now (scratch .entry)) m r (now (scratch .exit)) (outStep (limitsIn g (now (scratch .entry)))
+        (m .steps) (joinIn (g .nlib + length (now (scratch .entry)) / 9) (storeOf (now (library .entry)) (now (scratch .entry)) (m .mark)) (ptrOf f)
+        (drop from (argsOf (storeOf (now (library .entry)) (now (scratch .entry)) (m .mark)) (ptrOf t))))) ⌝ }
 {
     match apply(library, scratch, g.nlib, m.mark, f, t, count, from, count) {
         Out::Done(p, mark) => Answer::Term(
@@ -67,7 +69,9 @@ pub fn give(
 ) -> Answer
     requires { ⌜ Headed (now library) (now scratch) g m t count ⌝ }
     requires { ⌜ (f .row < g .nlib + m .mark) × (from ≤ count) ⌝ }
-    ensures { λ r. ⌜ Left (now (library .entry)) (now (scratch .entry)) m r (now (scratch .exit)) (fireIn (limitsIn g (now (scratch .entry))) (tallyOf (now (library .entry)) (now (scratch .entry)) m) (itself (ptrOf f)) (drop from (argsOf (storeOf (now (library .entry)) (now (scratch .entry)) (m .mark)) (ptrOf t)))) ⌝ }
+    ensures { λ r. ⌜ Left (now (library .entry)) (now (scratch .entry)) m r (now (scratch .exit)) (fireIn (limitsIn g (now (scratch .entry)))
+        (tallyOf (now (library .entry)) (now (scratch .entry)) m) (itself (ptrOf f)) (drop from
+        (argsOf (storeOf (now (library .entry)) (now (scratch .entry)) (m .mark)) (ptrOf t)))) ⌝ }
 {
     if g.steps <= m.steps {
         return Answer::Refused(4);
@@ -91,7 +95,9 @@ pub fn open(
     requires { ⌜ Headed (now library) (now scratch) g m t count ⌝ }
     requires { ⌜ Opens (storeOf (now library) (now scratch) (m .mark)) body value by ⌝ }
     requires { ⌜ from ≤ count ⌝ }
-    ensures { λ r. ⌜ Left (now (library .entry)) (now (scratch .entry)) m r (now (scratch .exit)) (fireIn (limitsIn g (now (scratch .entry))) (tallyOf (now (library .entry)) (now (scratch .entry)) m) (opened (ptrOf body) (ptrOf value) by) (drop from (argsOf (storeOf (now (library .entry)) (now (scratch .entry)) (m .mark)) (ptrOf t)))) ⌝ }
+    ensures { λ r. ⌜ Left (now (library .entry)) (now (scratch .entry)) m r (now (scratch .exit)) (fireIn (limitsIn g (now (scratch .entry)))
+        (tallyOf (now (library .entry)) (now (scratch .entry)) m) (opened (ptrOf body) (ptrOf value) by) (drop from
+        (argsOf (storeOf (now (library .entry)) (now (scratch .entry)) (m .mark)) (ptrOf t)))) ⌝ }
 {
     if g.steps <= m.steps {
         return Answer::Refused(4);
@@ -128,7 +134,9 @@ pub fn give_with(
     requires { ⌜ Headed (now library) (now scratch) g m t count ⌝ }
     requires { ⌜ (Good (storeOf (now library) (now scratch) (m .mark)) (ptrOf f)) × (Good (storeOf (now library) (now scratch) (m .mark)) (ptrOf a)) ⌝ }
     requires { ⌜ from ≤ count ⌝ }
-    ensures { λ r. ⌜ Left (now (library .entry)) (now (scratch .entry)) m r (now (scratch .exit)) (fireIn (limitsIn g (now (scratch .entry))) (tallyOf (now (library .entry)) (now (scratch .entry)) m) (itself (ptrOf f)) (ptrOf a ∷ drop from (argsOf (storeOf (now (library .entry)) (now (scratch .entry)) (m .mark)) (ptrOf t)))) ⌝ }
+    ensures { λ r. ⌜ Left (now (library .entry)) (now (scratch .entry)) m r (now (scratch .exit)) (fireIn (limitsIn g (now (scratch .entry)))
+        (tallyOf (now (library .entry)) (now (scratch .entry)) m) (itself (ptrOf f)) (ptrOf a ∷ drop from
+        (argsOf (storeOf (now (library .entry)) (now (scratch .entry)) (m .mark)) (ptrOf t)))) ⌝ }
 {
     if g.steps <= m.steps {
         return Answer::Refused(4);
@@ -158,7 +166,10 @@ pub fn variable(
 ) -> Answer
     requires { ⌜ Headed (now library) (now scratch) g m t count ⌝ }
     requires { ⌜ HasContext (now context) (g .depth) (g .nlib + m .mark) i ⌝ }
-    ensures { λ r. ⌜ Left (now (library .entry)) (now (scratch .entry)) m r (now (scratch .exit)) (unfoldStep (limitsIn g (now (scratch .entry))) (tallyOf (now (library .entry)) (now (scratch .entry)) m) (contextValue (now (context .entry)) (g .depth) (storeOf (now (library .entry)) (now (scratch .entry)) (m .mark)) i) (argsOf (storeOf (now (library .entry)) (now (scratch .entry)) (m .mark)) (ptrOf t))) ⌝ }
+    ensures { λ r. ⌜ Left (now (library .entry)) (now (scratch .entry)) m r (now (scratch .exit)) (unfoldStep (limitsIn g (now (scratch .entry)))
+        (tallyOf (now (library .entry)) (now (scratch .entry)) m) (contextValue (now (context .entry)) (g .depth)
+        (storeOf (now (library .entry)) (now (scratch .entry)) (m .mark)) i) (argsOf (storeOf (now (library .entry)) (now (scratch .entry))
+        (m .mark)) (ptrOf t))) ⌝ }
 {
     let found = value_of(context, g.depth, i);
     let ValueFound::Found(v) = found else {
@@ -181,7 +192,9 @@ pub fn unfold_def(
 ) -> Answer
     requires { ⌜ Headed (now library) (now scratch) g m t count ⌝ }
     requires { ⌜ ((d .valued ≡ 0 → ⊥) → d .value .row < g .nlib + m .mark) ⌝ }
-    ensures { λ r. ⌜ Left (now (library .entry)) (now (scratch .entry)) m r (now (scratch .exit)) (unfoldStep (limitsIn g (now (scratch .entry))) (tallyOf (now (library .entry)) (now (scratch .entry)) m) (unfoldsTo d levels) (argsOf (storeOf (now (library .entry)) (now (scratch .entry)) (m .mark)) (ptrOf t))) ⌝ }
+    ensures { λ r. ⌜ Left (now (library .entry)) (now (scratch .entry)) m r (now (scratch .exit)) (unfoldStep (limitsIn g (now (scratch .entry)))
+        (tallyOf (now (library .entry)) (now (scratch .entry)) m) (unfoldsTo d levels) (argsOf
+        (storeOf (now (library .entry)) (now (scratch .entry)) (m .mark)) (ptrOf t))) ⌝ }
 {
     if d.valued == 0 {
         return Answer::Final(m);

@@ -48,7 +48,8 @@ as-refused {c} {k} {p} {sp} {m} q = let z : _≡_ {A = ℕ} 0 1 = cc in omega ar
 nothing-refused : {k : ℕ} {m : Meter} → Nothing m ≡ Refused k → ⊥
 nothing-refused {k} {m} q = let z : _≡_ {A = ℕ} 0 1 = cc in omega arith
 
-as-same : {c c′ : ℕ} {p p′ : Ptr} {sp sp′ : Spined} {m m′ : Meter} (P : ℕ → Ptr → Spined → Meter → Type 0) → As c p sp m ≡ As c′ p′ sp′ m′ → P c p sp m → P c′ p′ sp′ m′
+as-same : {c c′ : ℕ} {p p′ : Ptr} {sp sp′ : Spined} {m m′ : Meter} (P : ℕ → Ptr → Spined → Meter → Type 0) → As c p sp m ≡ As c′ p′ sp′ m′ →
+    P c p sp m → P c′ p′ sp′ m′
 as-same {c} {c′} {p} {p′} {sp} {sp′} {m} {m′} P q x =
     let declaration : c ≡ c′ = cc in
     let pointer : p ≡ p′ = cc in

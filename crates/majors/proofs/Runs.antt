@@ -126,7 +126,8 @@ module _ (l sc : List ℕ) (nlib m : ℕ) (rule t : Ptr) (count before after : �
       pub rest-is : (from : ℕ) → runIn (nlib + length sc₁ / 9) s₁ (ptrOf p) (ptrOf u) from n ≡ joinIn most s₁ (ptrOf p) (drop from (argsOf s (ptrOf u)))
       rest-is from = run-is from n ∙ ap (joinIn most s₁ (ptrOf p)) (run-rest from n (argsOf s (ptrOf u)) counted)
 
-    pub reached-next : (zs : List rules.Ptr) → AllGood s zs → {q : Ptr} {m₂ : ℕ} {sc₂ : List ℕ} → Wrote l sc₁ m₁ (Done q m₂) sc₂ (joinIn most s₁ (ptrOf p) zs) → Reached sc₂ m₂ q
+    pub reached-next : (zs : List rules.Ptr) → AllGood s zs → {q : Ptr} {m₂ : ℕ} {sc₂ : List ℕ} →
+        Wrote l sc₁ m₁ (Done q m₂) sc₂ (joinIn most s₁ (ptrOf p) zs) → Reached sc₂ m₂ q
     reached-next zs good {q} {m₂} {sc₂} w =
         let next = join-stage most zs (k .stage .pass) (k .stage .good) (all-later (k .stage .more) good) (sym (w .says)) in
         record {

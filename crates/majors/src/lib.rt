@@ -173,7 +173,8 @@ fn write_succ(
     below: Number,
 ) -> Out
     requires { ⌜ Held (now library) (now scratch) mark nlib ⌝ }
-    ensures { λ r. ⌜ Wrote (now (library .entry)) (now (scratch .entry)) mark r (now (scratch .exit)) (succIn (nlib + length (now (scratch .entry)) / 9) (storeOf (now (library .entry)) (now (scratch .entry)) mark) declaration (valueOf below)) ⌝ }
+    ensures { λ r. ⌜ Wrote (now (library .entry)) (now (scratch .entry)) mark r (now (scratch .exit)) (succIn
+        (nlib + length (now (scratch .entry)) / 9) (storeOf (now (library .entry)) (now (scratch .entry)) mark) declaration (valueOf below)) ⌝ }
 {
     let first = make_const(library, scratch, nlib, mark, declaration, 0);
     let Out::Done(f, m1) = first else {
@@ -216,7 +217,8 @@ fn made_from(g: Given, m: Meter, declaration: u32, count: u32, out: Out) -> Made
 // A number as zero or as succ of the number below, if that role is held.
 fn number_made(library: &[u32], scratch: &mut [u32], g: Given, m: Meter, n: Number) -> Made
     requires { ⌜ Used (now library) (now scratch) (g .nlib) (m .mark) ⌝ }
-    ensures { λ r. ⌜ Constructed (now (library .entry)) (now (scratch .entry)) g m (λ e. numberMade e (storeOf (now (library .entry)) (now (scratch .entry)) (m .mark)) (valueOf n)) r (now (scratch .exit)) ⌝ }
+    ensures { λ r. ⌜ Constructed (now (library .entry)) (now (scratch .entry)) g m (λ e. numberMade e
+        (storeOf (now (library .entry)) (now (scratch .entry)) (m .mark)) (valueOf n)) r (now (scratch .exit)) ⌝ }
 {
     let holders = g.holders;
     let v = value(n);
@@ -239,7 +241,8 @@ fn number_made(library: &[u32], scratch: &mut [u32], g: Given, m: Meter, n: Numb
 // The reduced major as a constructor; a number's rows are written first.
 pub fn constructor_of(library: &[u32], scratch: &mut [u32], g: Given, m: Meter, q: Ptr) -> Made
     requires { ⌜ Major (now library) (now scratch) g m q ⌝ }
-    ensures { λ r. ⌜ Constructed (now (library .entry)) (now (scratch .entry)) g m (majorOf (storeOf (now (library .entry)) (now (scratch .entry)) (m .mark)) (ptrOf q)) r (now (scratch .exit)) ⌝ }
+    ensures { λ r. ⌜ Constructed (now (library .entry)) (now (scratch .entry)) g m (majorOf
+        (storeOf (now (library .entry)) (now (scratch .entry)) (m .mark)) (ptrOf q)) r (now (scratch .exit)) ⌝ }
 {
     let found = number_at(library, &scratch[..], q);
     let NumberFound::Found(n) = found else {
@@ -264,7 +267,10 @@ fn apply_rule(
     sp: Spined,
 ) -> Out
     requires { ⌜ RunsApply (now library) (now scratch) (g .nlib) (m .mark) (rule .value) t count before after made (sp .count) (rule .fields) ⌝ }
-    ensures { λ r. ⌜ Wrote (now (library .entry)) (now (scratch .entry)) (m .mark) r (now (scratch .exit)) (joinIn (g .nlib + length (now (scratch .entry)) / 9) (storeOf (now (library .entry)) (now (scratch .entry)) (m .mark)) (ptrOf (rule .value)) (threeRuns (argsOf (storeOf (now (library .entry)) (now (scratch .entry)) (m .mark)) (ptrOf t)) before after (argsOf (storeOf (now (library .entry)) (now (scratch .entry)) (m .mark)) (ptrOf made)) (rule .fields))) ⌝ }
+    ensures { λ r. ⌜ Wrote (now (library .entry)) (now (scratch .entry)) (m .mark) r (now (scratch .exit)) (joinIn
+        (g .nlib + length (now (scratch .entry)) / 9) (storeOf (now (library .entry)) (now (scratch .entry)) (m .mark)) (ptrOf (rule .value))
+        (threeRuns (argsOf (storeOf (now (library .entry)) (now (scratch .entry)) (m .mark)) (ptrOf t)) before after
+        (argsOf (storeOf (now (library .entry)) (now (scratch .entry)) (m .mark)) (ptrOf made)) (rule .fields))) ⌝ }
 {
     let nlib = g.nlib;
     let value = rule.value;
@@ -299,7 +305,10 @@ pub fn by_rule(
     position: u32,
 ) -> Answer
     requires { ⌜ MayRule (now library) (now rules) (now scratch) g m first many made sp t count before position ⌝ }
-    ensures { λ r. ⌜ Left (now (library .entry)) (now (scratch .entry)) m r (now (scratch .exit)) (ruledStep (limitsIn g (now (scratch .entry))) (tallyOf (now (library .entry)) (now (scratch .entry)) m) (ruledBy (recordsFrom 4 (now (rules .entry)) ruleOf first many) constructor (argsOf (storeOf (now (library .entry)) (now (scratch .entry)) (m .mark)) (ptrOf made)) before position (argsOf (storeOf (now (library .entry)) (now (scratch .entry)) (m .mark)) (ptrOf t)))) ⌝ }
+    ensures { λ r. ⌜ Left (now (library .entry)) (now (scratch .entry)) m r (now (scratch .exit)) (ruledStep (limitsIn g (now (scratch .entry)))
+        (tallyOf (now (library .entry)) (now (scratch .entry)) m) (ruledBy (recordsFrom 4 (now (rules .entry)) ruleOf first many) constructor
+        (argsOf (storeOf (now (library .entry)) (now (scratch .entry)) (m .mark)) (ptrOf made)) before position (argsOf
+        (storeOf (now (library .entry)) (now (scratch .entry)) (m .mark)) (ptrOf t)))) ⌝ }
 {
     let RuleFound::Found(r) = rule_for(rules, first, many, constructor) else {
         return Answer::Final(m);

@@ -64,7 +64,8 @@ module _ {l ds rs cs sc : List ℕ} {g : Given} {m : Meter} {t : Ptr} {count n :
     pub answers : OneOf (0 ∷ 2 ∷ []) (tagOf the-type r) → Left l sc m r sc₂ whole
     answers other = p .through r sc₂ (on r first other)
       where
-        on : (a : Answer) → Left l sc₁ m₁ a sc₂ (tried e l g n sc₁ m₁ (y xs)) → OneOf (0 ∷ 2 ∷ []) (tagOf the-type a) → Left l sc₁ m₁ a sc₂ (tried e l g n sc₁ m₁ (y xs or-else z xs))
+        on : (a : Answer) → Left l sc₁ m₁ a sc₂ (tried e l g n sc₁ m₁ (y xs)) → OneOf (0 ∷ 2 ∷ []) (tagOf the-type a) →
+            Left l sc₁ m₁ a sc₂ (tried e l g n sc₁ m₁ (y xs or-else z xs))
         on (Term q m₂) k h = else-fires e l g n sc₁ m₁ (y xs) (z xs) k
         on (Final m₂) k h = absurd (⊎-elim (λ q. omega arith) (λ q. omega arith) h)
         on (Refused j) k h = else-stops e l g n sc₁ m₁ (y xs) (z xs) k

@@ -100,7 +100,8 @@ fn side(
     nesting: u32,
 ) -> Reduced
     requires { ⌜ Asked (now library) (now decls) (now rules) (now context) (now scratch) g m p ⌝ }
-    ensures { λ r. ⌜ Ran (now (library .entry)) (now (scratch .entry)) m r (now (scratch .exit)) (resBy (now (library .entry)) (now (decls .entry)) (now (rules .entry)) (now (context .entry)) (now (scratch .entry)) g m nesting (ptrOf p)) ⌝ }
+    ensures { λ r. ⌜ Ran (now (library .entry)) (now (scratch .entry)) m r (now (scratch .exit)) (resBy (now (library .entry)) (now (decls .entry))
+        (now (rules .entry)) (now (context .entry)) (now (scratch .entry)) g m nesting (ptrOf p)) ⌝ }
 {
     if nesting == 0 {
         return Reduced::Refused(6);
@@ -135,7 +136,8 @@ fn reduce_proj(
 ) -> Answer
     requires { ⌜ Counted (now library) (now decls) (now rules) (now context) (now scratch) g m t count ⌝ }
     requires { ⌜ InScope (storeOf (now library) (now scratch) (m .mark)) (g .depth) (ptrOf structure) ⌝ }
-    ensures { λ r. ⌜ Left (now (library .entry)) (now (scratch .entry)) m r (now (scratch .exit)) (projected (now (library .entry)) (now (decls .entry)) (now (rules .entry)) (now (context .entry)) (now (scratch .entry)) g m t nesting structure index) ⌝ }
+    ensures { λ r. ⌜ Left (now (library .entry)) (now (scratch .entry)) m r (now (scratch .exit)) (projected (now (library .entry))
+        (now (decls .entry)) (now (rules .entry)) (now (context .entry)) (now (scratch .entry)) g m t nesting structure index) ⌝ }
 {
     let got = side(
         library,
@@ -174,7 +176,8 @@ fn quot_major(
 ) -> Answer
     requires { ⌜ Counted (now library) (now decls) (now rules) (now context) (now scratch) g m t count ⌝ }
     requires { ⌜ (3 < position) × (position < 6) ⌝ }
-    ensures { λ r. ⌜ QuotLeft (now (library .entry)) (now (decls .entry)) (now (rules .entry)) (now (context .entry)) (now (scratch .entry)) g m t nesting position r (now (scratch .exit)) ⌝ }
+    ensures { λ r. ⌜ QuotLeft (now (library .entry)) (now (decls .entry)) (now (rules .entry)) (now (context .entry)) (now
+        (scratch .entry)) g m t nesting position r (now (scratch .exit)) ⌝ }
 {
     if count <= position {
         return Answer::Final(m);
@@ -218,7 +221,8 @@ fn reduce_quot(
 ) -> Answer
     requires { ⌜ Counted (now library) (now decls) (now rules) (now context) (now scratch) g m t count ⌝ }
     requires { ⌜ declaration < length (now decls) / 16 ⌝ }
-    ensures { λ r. ⌜ Left (now (library .entry)) (now (scratch .entry)) m r (now (scratch .exit)) (quotient (now (library .entry)) (now (decls .entry)) (now (rules .entry)) (now (context .entry)) (now (scratch .entry)) g m t nesting declaration) ⌝ }
+    ensures { λ r. ⌜ Left (now (library .entry)) (now (scratch .entry)) m r (now (scratch .exit)) (quotient (now (library .entry))
+        (now (decls .entry)) (now (rules .entry)) (now (context .entry)) (now (scratch .entry)) g m t nesting declaration) ⌝ }
 {
     let role = decl_at(decls, declaration).role;
     if role == QUOT_LIFT {
@@ -272,7 +276,8 @@ fn reduce_rec(
 ) -> Answer
     requires { ⌜ Counted (now library) (now decls) (now rules) (now context) (now scratch) g m t count ⌝ }
     requires { ⌜ declaration < length (now decls) / 16 ⌝ }
-    ensures { λ r. ⌜ Left (now (library .entry)) (now (scratch .entry)) m r (now (scratch .exit)) (recursed (now (library .entry)) (now (decls .entry)) (now (rules .entry)) (now (context .entry)) (now (scratch .entry)) g m t nesting declaration levels) ⌝ }
+    ensures { λ r. ⌜ Left (now (library .entry)) (now (scratch .entry)) m r (now (scratch .exit)) (recursed (now (library .entry))
+        (now (decls .entry)) (now (rules .entry)) (now (context .entry)) (now (scratch .entry)) g m t nesting declaration levels) ⌝ }
 {
     let d = decl_at(decls, declaration);
     if d.levels != levels {
@@ -359,7 +364,8 @@ fn reduce_arith(
 ) -> Answer
     requires { ⌜ Counted (now library) (now decls) (now rules) (now context) (now scratch) g m t count ⌝ }
     requires { ⌜ declaration < length (now decls) / 16 ⌝ }
-    ensures { λ r. ⌜ Left (now (library .entry)) (now (scratch .entry)) m r (now (scratch .exit)) (computed (now (library .entry)) (now (decls .entry)) (now (rules .entry)) (now (context .entry)) (now (scratch .entry)) g m t nesting declaration) ⌝ }
+    ensures { λ r. ⌜ Left (now (library .entry)) (now (scratch .entry)) m r (now (scratch .exit)) (computed (now (library .entry))
+        (now (decls .entry)) (now (rules .entry)) (now (context .entry)) (now (scratch .entry)) g m t nesting declaration) ⌝ }
 {
     let role = decl_at(decls, declaration).role;
     if !is_tried(g, role) {
@@ -426,7 +432,8 @@ fn constant(
 ) -> Answer
     requires { ⌜ Counted (now library) (now decls) (now rules) (now context) (now scratch) g m t count ⌝ }
     requires { ⌜ declaration < length (now decls) / 16 ⌝ }
-    ensures { λ r. ⌜ Left (now (library .entry)) (now (scratch .entry)) m r (now (scratch .exit)) (constantly (now (library .entry)) (now (decls .entry)) (now (rules .entry)) (now (context .entry)) (now (scratch .entry)) g m t nesting declaration levels) ⌝ }
+    ensures { λ r. ⌜ Left (now (library .entry)) (now (scratch .entry)) m r (now (scratch .exit)) (constantly (now (library .entry))
+        (now (decls .entry)) (now (rules .entry)) (now (context .entry)) (now (scratch .entry)) g m t nesting declaration levels) ⌝ }
 {
     let by_quot = reduce_quot(
         library,
@@ -502,7 +509,8 @@ fn at_head(
     nesting: u32,
 ) -> Answer
     requires { ⌜ Asked (now library) (now decls) (now rules) (now context) (now scratch) g m t ⌝ }
-    ensures { λ r. ⌜ Left (now (library .entry)) (now (scratch .entry)) m r (now (scratch .exit)) (headBy (now (library .entry)) (now (decls .entry)) (now (rules .entry)) (now (context .entry)) (now (scratch .entry)) g m nesting (ptrOf t)) ⌝ }
+    ensures { λ r. ⌜ Left (now (library .entry)) (now (scratch .entry)) m r (now (scratch .exit)) (headBy (now (library .entry)) (now (decls .entry))
+        (now (rules .entry)) (now (context .entry)) (now (scratch .entry)) g m nesting (ptrOf t)) ⌝ }
 {
     let s = head_of(library, &scratch[..], t);
     let h = s.head;
@@ -593,7 +601,8 @@ pub fn whnf(
     nesting: u32,
 ) -> Reduced
     requires { ⌜ Asked (now library) (now decls) (now rules) (now context) (now scratch) g m t ⌝ }
-    ensures { λ r. ⌜ Ran (now (library .entry)) (now (scratch .entry)) m r (now (scratch .exit)) (resBy (now (library .entry)) (now (decls .entry)) (now (rules .entry)) (now (context .entry)) (now (scratch .entry)) g m (suc nesting) (ptrOf t)) ⌝ }
+    ensures { λ r. ⌜ Ran (now (library .entry)) (now (scratch .entry)) m r (now (scratch .exit)) (resBy (now (library .entry)) (now (decls .entry))
+        (now (rules .entry)) (now (context .entry)) (now (scratch .entry)) g m (suc nesting) (ptrOf t)) ⌝ }
 {
     let mut at = m;
     let mut p = t;

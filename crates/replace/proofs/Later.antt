@@ -64,7 +64,8 @@ module _ (l sc : List ℕ) (nlib m : ℕ) (sound : Sound l sc nlib m) (q : Ptr) 
     pass = pass;
   }
 
-pub ready-later : {l sc : List ℕ} {nlib m : ℕ} {x : Sub} {sc′ : List ℕ} {m′ : ℕ} → Ready l sc nlib m x → Ext (storeOf l sc m) (storeOf l sc′ m′) → Sound l sc′ nlib m′ → Ready l sc′ nlib m′ x
+pub ready-later : {l sc : List ℕ} {nlib m : ℕ} {x : Sub} {sc′ : List ℕ} {m′ : ℕ} → Ready l sc nlib m x →
+    Ext (storeOf l sc m) (storeOf l sc′ m′) → Sound l sc′ nlib m′ → Ready l sc′ nlib m′ x
 ready-later ready more sound = record {
   sound = sound;
   one = ready .one;
@@ -86,5 +87,6 @@ pub record Went (l sc : List ℕ) (nlib m : ℕ) (x : Sub) (sc′ : List ℕ) (m
 pub went-nowhere : (l sc : List ℕ) (nlib m : ℕ) (x : Sub) → Ready l sc nlib m x → Went l sc nlib m x sc m
 went-nowhere l sc nlib m x ready = record { ready = ready; more = ext-same _; same-length = refl }
 
-pub went-then : {l sc : List ℕ} {nlib m : ℕ} {x : Sub} {sc₁ : List ℕ} {m₁ : ℕ} {sc₂ : List ℕ} {m₂ : ℕ} → Went l sc nlib m x sc₁ m₁ → Went l sc₁ nlib m₁ x sc₂ m₂ → Went l sc nlib m x sc₂ m₂
+pub went-then : {l sc : List ℕ} {nlib m : ℕ} {x : Sub} {sc₁ : List ℕ} {m₁ : ℕ} {sc₂ : List ℕ} {m₂ : ℕ} → Went l sc nlib m x sc₁ m₁ →
+    Went l sc₁ nlib m₁ x sc₂ m₂ → Went l sc nlib m x sc₂ m₂
 went-then a b = record { ready = b .ready; more = ext-then (a .more) (b .more); same-length = b .same-length ∙ a .same-length }

@@ -112,7 +112,8 @@ pub record Inside (l sc : List ℕ) (nlib m : ℕ) (p : Ptr) (c : ℕ) (x : Sub)
   pub over-it : c < bound (storeOf l sc m) (ptrOf p)
   pub low : p .shift < c + x .count
 
-pub goes-inside : {l sc : List ℕ} {nlib m : ℕ} {p : Ptr} {c : ℕ} {x : Sub} (b : ℕ) → PtrReady l sc nlib m p c x → b ≡ bound (whole l sc) (ptrOf p) → c < b → p .shift < c + x .count →
+pub goes-inside : {l sc : List ℕ} {nlib m : ℕ} {p : Ptr} {c : ℕ} {x : Sub} (b : ℕ) → PtrReady l sc nlib m p c x →
+    b ≡ bound (whole l sc) (ptrOf p) → c < b → p .shift < c + x .count →
     Inside l sc nlib m p c x
 goes-inside {l} {sc} {nlib} {m} {p} {c} {x} b given read h k = record { given = given; over-it = omega (arith, bound-here l sc nlib m p c x given b read); low = k }
 

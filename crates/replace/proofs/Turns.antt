@@ -42,7 +42,8 @@ module _ (most : ℕ) (x : Sub) (rec : ℕ → Store → rules.Ptr → course.Ou
   abbrev onField : Tag → rules.Ptr → course.Out
   onField τ p = fieldIn most (valueOf x) (x .by) rec τ c s p
 
-  field-refused : (τ τ′ : Tag) (p : rules.Ptr) (next : Got → course.Out) (k : ℕ) → τ′ ≡ τ → course.refused k ≡ onField τ p → course.refused k ≡ and-on (onField τ′ (shown τ p)) next
+  field-refused : (τ τ′ : Tag) (p : rules.Ptr) (next : Got → course.Out) (k : ℕ) → τ′ ≡ τ → course.refused k ≡ onField τ p →
+      course.refused k ≡ and-on (onField τ′ (shown τ p)) next
   field-refused plain τ′ p next k t e = absurd (let z : _≡_ {A = ℕ} 0 1 = cc in omega arith)
   field-refused term τ′ p next k t e = rw (t, ← e)
   field-refused body τ′ p next k t e = rw (t, ← e)

@@ -60,7 +60,8 @@ fn push(scratch: &mut [u32], nlib: u32, mark: u32, w: Shape, size: Sizes) -> Out
 pub fn make(library: &[u32], scratch: &mut [u32], nlib: u32, mark: u32, w: Shape) -> Out
     requires { ⌜ Held (now library) (now scratch) mark nlib ⌝ }
     requires { ⌜ Due (nlib + mark) w ⌝ }
-    ensures { λ r. ⌜ Wrote (now (library .entry)) (now (scratch .entry)) mark r (now (scratch .exit)) (putIn (nlib + length (now (scratch .entry)) / 9) (storeOf (now (library .entry)) (now (scratch .entry)) mark) (rowOf w)) ⌝ }
+    ensures { λ r. ⌜ Wrote (now (library .entry)) (now (scratch .entry)) mark r (now (scratch .exit)) (putIn
+        (nlib + length (now (scratch .entry)) / 9) (storeOf (now (library .entry)) (now (scratch .entry)) mark) (rowOf w)) ⌝ }
 {
     let size = sizes_of(library, &scratch[..], w);
     push(scratch, nlib, mark, w, size)
@@ -77,7 +78,8 @@ fn make_leaf(
 ) -> Out
     requires { ⌜ Held (now library) (now scratch) mark nlib ⌝ }
     requires { ⌜ Due (nlib + mark) (leafShape kind words) ⌝ }
-    ensures { λ r. ⌜ Wrote (now (library .entry)) (now (scratch .entry)) mark r (now (scratch .exit)) (putIn (nlib + length (now (scratch .entry)) / 9) (storeOf (now (library .entry)) (now (scratch .entry)) mark) (rowOf (leafShape kind words))) ⌝ }
+    ensures { λ r. ⌜ Wrote (now (library .entry)) (now (scratch .entry)) mark r (now (scratch .exit)) (putIn
+        (nlib + length (now (scratch .entry)) / 9) (storeOf (now (library .entry)) (now (scratch .entry)) mark) (rowOf (leafShape kind words))) ⌝ }
 {
     let none = Ptr { row: 0, shift: 0 };
     let w = Shape {
@@ -91,7 +93,8 @@ fn make_leaf(
 
 pub fn make_var(library: &[u32], scratch: &mut [u32], nlib: u32, mark: u32, index: u32) -> Out
     requires { ⌜ Held (now library) (now scratch) mark nlib ⌝ }
-    ensures { λ r. ⌜ Wrote (now (library .entry)) (now (scratch .entry)) mark r (now (scratch .exit)) (putIn (nlib + length (now (scratch .entry)) / 9) (storeOf (now (library .entry)) (now (scratch .entry)) mark) (var index)) ⌝ }
+    ensures { λ r. ⌜ Wrote (now (library .entry)) (now (scratch .entry)) mark r (now (scratch .exit)) (putIn
+        (nlib + length (now (scratch .entry)) / 9) (storeOf (now (library .entry)) (now (scratch .entry)) mark) (var index)) ⌝ }
 {
     make_leaf(
         library,
@@ -109,7 +112,8 @@ pub fn make_var(library: &[u32], scratch: &mut [u32], nlib: u32, mark: u32, inde
 // "A row with level over 255 gives 10 before 8."
 pub fn make_sort(library: &[u32], scratch: &mut [u32], nlib: u32, mark: u32, level: u32) -> Out
     requires { ⌜ Held (now library) (now scratch) mark nlib ⌝ }
-    ensures { λ r. ⌜ Wrote (now (library .entry)) (now (scratch .entry)) mark r (now (scratch .exit)) (sortIn (nlib + length (now (scratch .entry)) / 9) (storeOf (now (library .entry)) (now (scratch .entry)) mark) level) ⌝ }
+    ensures { λ r. ⌜ Wrote (now (library .entry)) (now (scratch .entry)) mark r (now (scratch .exit)) (sortIn
+        (nlib + length (now (scratch .entry)) / 9) (storeOf (now (library .entry)) (now (scratch .entry)) mark) level) ⌝ }
 {
     if 255 < level {
         return Out::Refused(10);
@@ -136,7 +140,8 @@ pub fn make_const(
     levels: u32,
 ) -> Out
     requires { ⌜ Held (now library) (now scratch) mark nlib ⌝ }
-    ensures { λ r. ⌜ Wrote (now (library .entry)) (now (scratch .entry)) mark r (now (scratch .exit)) (putIn (nlib + length (now (scratch .entry)) / 9) (storeOf (now (library .entry)) (now (scratch .entry)) mark) (leaf (const declaration levels))) ⌝ }
+    ensures { λ r. ⌜ Wrote (now (library .entry)) (now (scratch .entry)) mark r (now (scratch .exit)) (putIn
+        (nlib + length (now (scratch .entry)) / 9) (storeOf (now (library .entry)) (now (scratch .entry)) mark) (leaf (const declaration levels))) ⌝ }
 {
     make_leaf(
         library,
@@ -161,7 +166,8 @@ pub fn make_number(
     high: u32,
 ) -> Out
     requires { ⌜ Held (now library) (now scratch) mark nlib ⌝ }
-    ensures { λ r. ⌜ Wrote (now (library .entry)) (now (scratch .entry)) mark r (now (scratch .exit)) (putIn (nlib + length (now (scratch .entry)) / 9) (storeOf (now (library .entry)) (now (scratch .entry)) mark) (leaf (num (wordsValue low high)))) ⌝ }
+    ensures { λ r. ⌜ Wrote (now (library .entry)) (now (scratch .entry)) mark r (now (scratch .exit)) (putIn
+        (nlib + length (now (scratch .entry)) / 9) (storeOf (now (library .entry)) (now (scratch .entry)) mark) (leaf (num (wordsValue low high)))) ⌝ }
 {
     make_leaf(
         library,

@@ -36,7 +36,8 @@ fn is_app<'a>(library: &'a [u32], scratch: &'a [u32], t: Ptr) -> bool
 fn child<'a>(library: &'a [u32], scratch: &'a [u32], t: Ptr, j: usize) -> Ptr
     requires { ⌜ HasChild (now library) (now scratch) t j ⌝ }
     requires { ⌜ j < 3 ⌝ }
-    ensures { λ r. ⌜ ptrOf r ≡ up (whole (now (library .entry)) (now (scratch .entry))) (ptrOf (pairAt (wordsAt (now (library .entry)) (now (scratch .entry)) (t .row)) j)) (t .shift) ⌝ }
+    ensures { λ r. ⌜ ptrOf r ≡ up (whole (now (library .entry)) (now (scratch .entry))) (ptrOf
+        (pairAt (wordsAt (now (library .entry)) (now (scratch .entry)) (t .row)) j)) (t .shift) ⌝ }
 {
     let p = pair_of(row_at(library, scratch, t.row), j);
     shift_up(library, scratch, p, t.shift)
@@ -75,7 +76,8 @@ pub fn argument<'a>(library: &'a [u32], scratch: &'a [u32], t: Ptr, count: u32, 
 pub fn apply_one(library: &[u32], scratch: &mut [u32], nlib: u32, mark: u32, f: Ptr, a: Ptr) -> Out
     requires { ⌜ Held (now library) (now scratch) mark nlib ⌝ }
     requires { ⌜ (f .row < nlib + mark) × (a .row < nlib + mark) ⌝ }
-    ensures { λ r. ⌜ Wrote (now (library .entry)) (now (scratch .entry)) mark r (now (scratch .exit)) (putIn (nlib + length (now (scratch .entry)) / 9) (storeOf (now (library .entry)) (now (scratch .entry)) mark) (node app (ptrOf f) (ptrOf a) blank)) ⌝ }
+    ensures { λ r. ⌜ Wrote (now (library .entry)) (now (scratch .entry)) mark r (now (scratch .exit)) (putIn
+        (nlib + length (now (scratch .entry)) / 9) (storeOf (now (library .entry)) (now (scratch .entry)) mark) (node app (ptrOf f) (ptrOf a) blank)) ⌝ }
 {
     let w = Shape {
         kind: 3,
@@ -99,7 +101,8 @@ pub fn apply(
     to: u32,
 ) -> Out
     requires { ⌜ Applies (now library) (now scratch) nlib mark f t count from to ⌝ }
-    ensures { λ r. ⌜ Wrote (now (library .entry)) (now (scratch .entry)) mark r (now (scratch .exit)) (runIn (nlib + length (now (scratch .entry)) / 9) (storeOf (now (library .entry)) (now (scratch .entry)) mark) (ptrOf f) (ptrOf t) from to) ⌝ }
+    ensures { λ r. ⌜ Wrote (now (library .entry)) (now (scratch .entry)) mark r (now (scratch .exit)) (runIn
+        (nlib + length (now (scratch .entry)) / 9) (storeOf (now (library .entry)) (now (scratch .entry)) mark) (ptrOf f) (ptrOf t) from to) ⌝ }
 {
     let mut result = f;
     let mut at = mark;

@@ -155,7 +155,8 @@ module _ {w : Lent} (sizes : Sizes w) where
       (decls-mean (w .declarations) (w .rules) (storeIn w) (libraryRows w) (declarationCount w) declarations-there)
       (λ i h. to-store i (all-of says e i h))
 
-  pub a-declaration-broken : {r : Checked} {j : ℕ} → RowsKept w (storeIn w) → Upward (DeclHolds (whole (w .library) (w .scratch))) (declarationCount w) r → r ≡ Broken j → Accepts w (verdict.Refused 3 j)
+  pub a-declaration-broken : {r : Checked} {j : ℕ} → RowsKept w (storeIn w) →
+      Upward (DeclHolds (whole (w .library) (w .scratch))) (declarationCount w) r → r ≡ Broken j → Accepts w (verdict.Refused 3 j)
   a-declaration-broken {j = j} kept says e =
       let first = first-of says e in
       refused
@@ -175,7 +176,8 @@ module _ {w : Lent} (sizes : Sizes w) where
       (entries-mean (w .context) (storeIn w) rows rows-many (w .depth) (sizes .depth))
       (λ i h. entry-agrees read-used (w .context) i (all-of says e i h))
 
-  pub a-record-broken : {r : Checked} {j : ℕ} → RowsKept w (storeIn w) → DeclarationsKept w (storeIn w) (envIn w .decls) → Upward (EntryHolds (whole (w .library) (w .scratch))) (w .depth) r → r ≡ Broken j → Accepts w (verdict.Refused 3 j)
+  pub a-record-broken : {r : Checked} {j : ℕ} → RowsKept w (storeIn w) → DeclarationsKept w (storeIn w) (envIn w .decls) →
+      Upward (EntryHolds (whole (w .library) (w .scratch))) (w .depth) r → r ≡ Broken j → Accepts w (verdict.Refused 3 j)
   a-record-broken {j = j} kept decls says e =
       let first = first-of says e in
       refused

@@ -156,7 +156,8 @@ pub fn accept<'a>(
     steps: u32,
     nesting: u32,
 ) -> Verdict
-    ensures { λ r. ⌜ Accepts (lentOf (now (library .entry)) (now (declarations .entry)) (now (rules .entry)) (now (context .entry)) depth (now (scratch .entry)) mark term steps nesting) r ⌝ }
+    ensures { λ r. ⌜ Accepts (lentOf (now (library .entry)) (now (declarations .entry)) (now (rules .entry)) (now (context .entry)) depth
+        (now (scratch .entry)) mark term steps nesting) r ⌝ }
 {
     if !sizes_ok(
         library,

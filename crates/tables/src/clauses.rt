@@ -167,7 +167,8 @@ fn form_ok<'a>(
 ) -> bool
     requires { ⌜ Rows (now library) (now scratch) nlib ⌝ }
     requires { ⌜ length (now w) ≡ 16 ⌝ }
-    ensures { λ r. ⌜ Says (FormRight (now (decls .entry)) (now (rules .entry)) (whole (now (library .entry)) (now (scratch .entry))) nlib (now (w .entry)) (getD (now (w .entry)) 0 0)) r ⌝ }
+    ensures { λ r. ⌜ Says (FormRight (now (decls .entry)) (now (rules .entry)) (whole (now (library .entry)) (now (scratch .entry))) nlib
+        (now (w .entry)) (getD (now (w .entry)) 0 0)) r ⌝ }
 {
     let kind = w[0];
     if kind == 0 {
@@ -199,7 +200,8 @@ pub fn decl_ok<'a>(
 ) -> bool
     requires { ⌜ Rows (now library) (now scratch) nlib ⌝ }
     requires { ⌜ 16 * j + 16 ≤ length (now decls) ⌝ }
-    ensures { λ r. ⌜ Says (DeclRight (now (decls .entry)) (now (rules .entry)) (whole (now (library .entry)) (now (scratch .entry))) nlib (part 16 (now (decls .entry)) j)) r ⌝ }
+    ensures { λ r. ⌜ Says (DeclRight (now (decls .entry)) (now (rules .entry)) (whole (now (library .entry)) (now (scratch .entry))) nlib
+        (part 16 (now (decls .entry)) j)) r ⌝ }
 {
     let w = words_at(decls, 16 * (j as usize), 16);
     if 16 < w[1] {

@@ -102,7 +102,8 @@ module _ (e : Env) (lim : Limits) (sd : Side) where
   unfolding recursion
   rec-none m D n xs q = with-none _ m q
 
-  pub rec-refused : (m : Tally) (D : Decl) (n : ℕ) (xs : List Ptr) {c : RecParts} {k : ℕ} → recParts D n xs ≡ some c → sd m (c .major) ≡ no k → try lim sd (recursion e D n xs) m ≡ refuse k
+  pub rec-refused : (m : Tally) (D : Decl) (n : ℕ) (xs : List Ptr) {c : RecParts} {k : ℕ} → recParts D n xs ≡ some c →
+      sd m (c .major) ≡ no k → try lim sd (recursion e D n xs) m ≡ refuse k
   unfolding recursion
   rec-refused m D n xs q r = with-some _ m q ∙ side-refused _ r
 
@@ -135,7 +136,8 @@ module _ (e : Env) (lim : Limits) (sd : Side) where
   unfolding arithmetic
   arith-none m D xs q = with-none _ m q
 
-  pub arith-first-refused : (m : Tally) (D : Decl) (xs : List Ptr) {c : Operands} {k : ℕ} → operands e D xs ≡ some c → sd m (c .first) ≡ no k → try lim sd (arithmetic e D xs) m ≡ refuse k
+  pub arith-first-refused : (m : Tally) (D : Decl) (xs : List Ptr) {c : Operands} {k : ℕ} → operands e D xs ≡ some c →
+      sd m (c .first) ≡ no k → try lim sd (arithmetic e D xs) m ≡ refuse k
   unfolding arithmetic
   arith-first-refused m D xs q r = with-some _ m q ∙ side-refused _ r
 

@@ -14,7 +14,8 @@ Right c said =
     said ≡ settled (compute (opOf (c .before .before .args .op)) (valueOf (c .before .before .args .x)) (valueOf (c .before .before .args .y)))
 
 -- an arm is for one operation, and what the rules give there for the values at hand they give for the two numbers
-at-arm : (c : tie.After-value2) {op : rules.Op} {said : Said} → opOf (c .before .before .args .op) ≡ op → said ≡ settled (compute op (c .before .value .result) (c .value2 .result)) → Right c said
+at-arm : (c : tie.After-value2) {op : rules.Op} {said : Said} → opOf (c .before .before .args .op) ≡ op →
+    said ≡ settled (compute op (c .before .value .result) (c .value2 .result)) → Right c said
 at-arm c is-op given = rw (is-op, ← c .before .value .ensures, ← c .value2 .ensures) given
 
 value-requires : tie.Need-value-requires

@@ -23,7 +23,8 @@ is-app-requires : tie.Need-is-app-requires Inv-loop μ-loop
 is-app-requires c κs = stands _ _ _ _ _ (c .loop .inv)
 
 -- the row reached is an application
-three : (c : tie.Then1 Inv-loop μ-loop) → getD (wordsAt (c .before .before .before .before .before .args .library .now) (c .before .before .before .before .before .args .scratch .now) (c .before .before .loop .head .row)) 0 0 ≡ 3
+three : (c : tie.Then1 Inv-loop μ-loop) →
+    getD (wordsAt (c .before .before .before .before .before .args .library .now) (c .before .before .before .before .before .args .scratch .now) (c .before .before .loop .head .row)) 0 0 ≡ 3
 three c = eqb-true _ 3 (sym (c .before .is-app .ensures) ∙ c .if1 .taken)
 
 child-requires : tie.Need-child-requires Inv-loop μ-loop

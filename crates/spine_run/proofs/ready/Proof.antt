@@ -47,7 +47,8 @@ abbrev entry : tie.After-bound-of → tie.Start
 entry c = c .before .before .before .before .before .before .before .before .before .before .before
 
 -- every test has passed but the last, that a closed pointer's shift is 0
-tested : (c : tie.After-bound-of) → (c .bound-of .result ≡ 0 → entry c .args .t .shift ≡ 0) → Ready (entry c .args .library .now) (entry c .args .scratch .now) (entry c .args .mark) (entry c .args .t)
+tested : (c : tie.After-bound-of) → (c .bound-of .result ≡ 0 → entry c .args .t .shift ≡ 0) →
+    Ready (entry c .args .library .now) (entry c .args .scratch .now) (entry c .args .mark) (entry c .args .t)
 tested c still =
     let measured = c .before .before .before in
     let checked = measured .before .before .before .before .before in
