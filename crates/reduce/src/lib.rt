@@ -88,7 +88,7 @@ fn as_answer(r: Reduced) -> Answer
 }
 
 // A side reduction: one nesting level deeper, or 6.
-fn side(
+pub fn side(
     library: &[u32],
     decls: &[u32],
     rules: &[u32],

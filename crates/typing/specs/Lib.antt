@@ -1,0 +1,4 @@
+pub mod Here
+pub mod Gives
+pub mod Written
+pub mod Pieces
