@@ -2,3 +2,9 @@ pub mod Places
 pub mod Alike
 pub mod Writing
 pub mod Reducing
+pub mod Steps
+pub mod Under
+pub mod Question
+pub mod Forms
+pub mod Binders
+pub mod Fields

@@ -133,6 +133,19 @@ module _ {A : Type 0} {In : Store → A → Type 0} {n : ℕ} {h : Here} {Y : (S
     value = λ b m₁ e. absurd (gave-apart (sym q ∙ e));
   }
 
+-- a piece whose last piece gives its value
+pub piece-by-piece : {A : Type 0} {In : Store → A → Type 0} {n : ℕ} {h : Here} {Y Y₁ : (Store → A → Ask) → Ask} {cs sc : List ℕ} {m : Meter} {o : Outcome A} {cs₁ sc₁ : List ℕ} →
+    ((next : Store → A → Ask) → At n h (resAt n h (Y next)) cs sc m (Y₁ next)) → After h cs sc m → Gives In n (later h cs sc m) Y₁ o cs₁ sc₁ → Gives In n h Y o cs₁ sc₁
+piece-by-piece {A} {In} {n} {h} {Y} {Y₁} {cs} {sc} {m} {o} {cs₁} {sc₁} at after last = record {
+  says = λ next. sym (at next .is) ∙ last .says next ∙ same o next;
+  keeps = keeps-then after (last .keeps);
+  value = λ a m₁ e. let v = last .value a m₁ e in record { after = after-then after (v .after); fits = v .fits };
+}
+  where
+    same : (o : Outcome A) (next : Store → A → Ask) → thenOn n (later h cs sc m) cs₁ sc₁ next o ≡ thenOn n h cs₁ sc₁ next o
+    same (gave a m₁) next = refl
+    same (refused k) next = refl
+
 -- THE WAYS OUT OF A FORM
 
 module _ {n : ℕ} {h : Here} {y : Ask} {cs sc : List ℕ} where
