@@ -1,24 +1,17 @@
 -- From the cycle's promise to the call's: what `reduce::whnf` answers on accepted input is what the rules say, and what it leaves is what they leave.
 -- Assumes accepted input.
 use Prim.Native.Nat.{ℕ, suc, _+_, _*_, _-_, _/_, _≤_, _<_}
-use native.Mathlib.Omega.{arith}
 use mathlib.Core.Path.{_≡_, refl, sym, ap, ap₂, _∙_, subst}
 use mathlib.Core.List.{List, _++_}
-use mathlib.Core.Option.{some}
 use lib.ListN.{length, replicate}
-use Rattle.rules.specs.Rows.{Store, Cell}
-use Rattle.rules.specs.Declarations.{nth}
-use Rattle.rules.specs.Accepted.{Lent, IsRow, part, Accepted}
+use Rattle.rules.specs.Accepted.{Lent, Accepted}
 use Rattle.rules.specs.Call as call
 use Rattle.rules.specs.Call.{limitsOf, Whnf, refuses, answers}
 use Rattle.course.specs.Eval.{sideAt, eval}
-use Rattle.safety.specs.Lists.{nth-inside, some-same}
 use Rattle.safety.specs.Sane.{accepted-ready}
 use Rattle.safety.specs.Answers.{eval-answered, eval-refused}
 use Rattle.rows.specs.declared.Ptr.{Ptr}
-use Rattle.rows.specs.Words.{ptrOf, decode, wordsAt, storeOf}
-use Rattle.rows.proofs.Store.{words-in-scratch, cell-is, held-length}
-use Rattle.rows.proofs.KeptRows.{cell-nth}
+use Rattle.rows.specs.Words.{ptrOf}
 use Rattle.tables.specs.Read.{HoldersOf}
 use Rattle.tables.specs.Verdicts.{lentOf, envIn, storeIn}
 use Rattle.state.specs.declared.Given.{Given}
@@ -29,6 +22,7 @@ use Rattle.state.specs.State.{tallyOf}
 use Rattle.cycle.specs.Cycle.{Asked, Ran, resAs, resBy}
 use Rattle.cycle.proofs.Standing.{after-side}
 use Rattle.cycle.proofs.Accepting.{accepted-asked}
+use Rattle.cycle.proofs.NewRows.{rows-counted, mark-moved, new-row-stands}
 use Rattle.reduce.proofs.Sides.{ran-as}
 use Rattle.call.specs.Answers.{GivenBy, zeroedFrom}
 
@@ -68,46 +62,18 @@ module _ (l ds rs cs sc : List ℕ) (mark : ℕ) (p : Ptr) (nesting : ℕ) (g : 
       there : Asked l ds rs cs sc₁ g m₁ q
       there = after-side (asked .stand) (suc nesting) (asked .scope) ran .asked
 
-      abbrev s : Store
-      s = storeOf l sc mark
-
-      abbrev s₁ : Store
-      s₁ = storeOf l sc₁ (m₁ .mark)
-
-      rows-before : length s ≡ g .nlib + mark
-      rows-before = held-length l sc mark (g .nlib) (asked .stand .held)
-
-      rows-after : length s₁ ≡ g .nlib + m₁ .mark
-      rows-after = held-length l sc₁ (m₁ .mark) (g .nlib) (there .stand .held)
-
       pub upward : mark ≤ m₁ .mark
       upward = ran .grown m₁ refl .upward
 
-      -- a new row stands in its nine words
-      new-row : (i : ℕ) (x : Cell) → nth s₁ (length s + i) ≡ some x → IsRow (part 9 sc₁ (mark + i)) x
-      new-row i x found =
-          let inside : length s + i < length s₁ = nth-inside s₁ (length s + i) found in
-          let row = length s + i in
-          let below : row < g .nlib + m₁ .mark = omega (arith, rows-after) in
-          let place : row ≡ g .nlib + (mark + i) = omega (arith, rows-before) in
-          let written : IsRow (part 9 sc₁ (mark + i)) (decode (part 9 sc₁ (mark + i))) =
-          ran .grown m₁ refl .rows (mark + i) (omega arith) (omega arith) in
-          let is : decode (part 9 sc₁ (mark + i)) ≡ x =
-          ap decode (sym (words-in-scratch l sc₁ (g .nlib) (there .stand .held .whole-library) (mark + i)))
-          ∙ ap (λ (n : ℕ). decode (wordsAt l sc₁ n)) (sym place)
-          ∙ sym (cell-is l sc₁ (g .nlib) (there .stand .held .whole-library) (m₁ .mark) row below)
-          ∙ some-same (sym (cell-nth s₁ row inside) ∙ found) in
-          subst (IsRow (part 9 sc₁ (mark + i))) is written
-
       answered : Whnf lent (call.term (ptrOf q) (m₁ .steps) (m₁ .mark - mark)) (record { mark = m₁ .mark; scratch = sc₁; context = cs })
       answered =
-          let counted : length s₁ - length s ≡ m₁ .mark - mark = omega (arith, rows-before, rows-after) in
-          let moved : m₁ .mark ≡ mark + (length s₁ - length s) = omega (arith, rows-before, rows-after, upward) in
-          answers a (eval-answered (accepted-ready a) (evaluated ran)) counted
+          let held = there .stand .held in
+          answers a (eval-answered (accepted-ready a) (evaluated ran))
+          (rows-counted l sc sc₁ mark (m₁ .mark) (g .nlib) (asked .stand .held) held (ran .grown m₁ refl))
           (record {
-            mark = moved;
+            mark = mark-moved l sc sc₁ mark (m₁ .mark) (g .nlib) (asked .stand .held) held (ran .grown m₁ refl);
             kept = ran .kept;
-            rows = new-row;
+            rows = new-row-stands l sc sc₁ mark (m₁ .mark) (g .nlib) (asked .stand .held) held (ran .grown m₁ refl);
             past = ran .grown m₁ refl .past;
             context = refl;
           })

@@ -12,4 +12,5 @@ pub mod Binders
 pub mod Shifts
 pub mod Values
 pub mod Accepting
+pub mod NewRows
 pub mod HeadShapes

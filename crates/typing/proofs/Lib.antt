@@ -8,3 +8,4 @@ pub mod Question
 pub mod Forms
 pub mod Binders
 pub mod Fields
+pub mod Ending
