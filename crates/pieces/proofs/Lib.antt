@@ -1,0 +1,12 @@
+pub mod Leaves
+pub mod Bodies
+pub mod Reducts
+pub mod Sorts
+pub mod Pis
+pub mod MadeRows
+pub mod Forms
+pub mod Variables
+pub mod Numbers
+pub mod Structures
+pub mod Parameters
+pub mod ParameterWalk
