@@ -10,13 +10,13 @@ const BASE: u64 = 0x1_0000_0000;
 
 const LARGEST: u64 = 0xffff_ffff_ffff_ffff;
 
-#[derive(Drop)]
+#[derive(Clone, Copy)]
 pub struct Number {
     pub low: u32,
     pub high: u32,
 }
 
-#[derive(Drop)]
+#[derive(Clone, Copy)]
 pub enum Op {
     Add,
     Sub,
@@ -28,7 +28,7 @@ pub enum Op {
 }
 
 // What comes out. TooLarge is refusal 7.
-#[derive(Drop)]
+#[derive(Clone, Copy)]
 pub enum Outcome {
     Number(Number),
     Truth(bool),

@@ -9,7 +9,7 @@ use state::{Given, Meter, Reduced};
 use tables::accept::{Verdict, accept};
 use tables::role_holders;
 
-#[derive(Drop)]
+#[derive(Clone, Copy)]
 pub enum Answered {
     // the term, steps, rows, and the mark after them
     Term(Ptr, u32, u32, u32),

@@ -12,13 +12,13 @@ const CONSTRUCTOR: u32 = 1;
 
 const QUOT_MK: u32 = 6;
 
-#[derive(Drop)]
+#[derive(Clone, Copy)]
 pub enum ConstantFound {
     Found(Decl, u32),
     NoConstant,
 }
 
-#[derive(Drop)]
+#[derive(Clone, Copy)]
 pub enum FieldFound {
     Found(Ptr),
     NoField,

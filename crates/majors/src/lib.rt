@@ -29,14 +29,14 @@ const TRUE: usize = 4;
 
 const FALSE: usize = 5;
 
-#[derive(Drop)]
+#[derive(Clone, Copy)]
 pub enum NumberFound {
     Found(Number),
     NoNumber,
 }
 
 // A major as a constructor: its declaration, and the term with the spine that its arguments are read from.
-#[derive(Drop)]
+#[derive(Clone, Copy)]
 pub enum Made {
     As(u32, Ptr, Spined, Meter),
     Nothing(Meter),

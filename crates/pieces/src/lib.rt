@@ -25,21 +25,21 @@ use state::{Given, Meter, NOBODY, Reduced};
 use tables::decl_at;
 
 // A sort's level with the meter after it, or the refusal's number.
-#[derive(Drop)]
+#[derive(Clone, Copy)]
 pub enum SortTo {
     Found(u32, Meter),
     Refused(u32),
 }
 
 // A pi's type, shifted; its body as it stands, the shift that it is under, and the meter; or the refusal's number.
-#[derive(Drop)]
+#[derive(Clone, Copy)]
 pub enum PiTo {
     Found(Ptr, Ptr, u32, Meter),
     Refused(u32),
 }
 
 // Parameters, the constructor's declaration, and how many arguments the type has.
-#[derive(Drop)]
+#[derive(Clone, Copy)]
 pub enum StructureFound {
     Found(u32, u32, u32),
     NoStructure,

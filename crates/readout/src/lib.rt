@@ -36,7 +36,7 @@ const MOST_HIGH: u32 = 2000;
 const PATH_WORDS: usize = 4000;
 
 // Where the writer stands: binders crossed from the top, shifted pointers passed, and levels that may follow.
-#[derive(Drop)]
+#[derive(Clone, Copy)]
 pub struct Place {
     pub binders: u32,
     pub shifted: u32,

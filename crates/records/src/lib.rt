@@ -8,20 +8,20 @@ ghost use Rattle.records.specs.Write.{record_of, pushed, cleared_from};
 use rows::{Ptr, row_at, shape_of};
 use tables::words_at;
 
-#[derive(Drop)]
+#[derive(Clone, Copy)]
 pub enum TypeFound {
     Found(Ptr),
     NoType,
 }
 
-#[derive(Drop)]
+#[derive(Clone, Copy)]
 pub enum SortFound {
     // the level
     Found(u32),
     NoSort,
 }
 
-#[derive(Drop)]
+#[derive(Clone, Copy)]
 pub enum PiFound {
     // type and body, as they stand in the row
     Found(Ptr, Ptr),

@@ -6,7 +6,7 @@ use rows::writer::{make, make_var};
 use rows::{Out, Ptr, Shape, ptr_bound, row_at, shape_of, shift_up};
 
 // One value (count 1) or none (count 0), and the move of the indices past it.
-#[derive(Drop)]
+#[derive(Clone, Copy)]
 pub struct Sub {
     pub value: Ptr,
     pub count: u32,

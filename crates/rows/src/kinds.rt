@@ -39,7 +39,7 @@ const FIELDS: [u8; 27] = [
 // How many of the six words between kind and bound a kind uses.
 const USED: [u8; 9] = [1, 1, 2, 4, 4, 4, 6, 4, 2];
 
-#[derive(Drop)]
+#[derive(Clone, Copy)]
 pub struct Sizes {
     pub bound: u64,
     pub height: u64,

@@ -8,14 +8,14 @@ pub mod kinds;
 pub mod row_check;
 pub mod writer;
 
-#[derive(Drop)]
+#[derive(Clone, Copy)]
 pub struct Ptr {
     pub row: u32,
     pub shift: u32,
 }
 
 // A row's kind and its three pairs.
-#[derive(Drop)]
+#[derive(Clone, Copy)]
 pub struct Shape {
     pub kind: u32,
     pub first: Ptr,
@@ -24,7 +24,7 @@ pub struct Shape {
 }
 
 // The answer of whatever writes rows: a pointer and the new mark, or the refusal's number.
-#[derive(Drop)]
+#[derive(Clone, Copy)]
 pub enum Out {
     Done(Ptr, u32),
     Refused(u32),

@@ -9,7 +9,7 @@ ghost use Rattle.rows.specs.Checks.{Formed, Ranged, Sized, Says, Right, CheckSay
 use super::kinds::{PLAIN, field_tag, sizes_of, used_words, within};
 use super::{Ptr, Shape, bound_of, height_of, row_at, shape_of};
 
-#[derive(Drop)]
+#[derive(Clone, Copy)]
 pub enum Checked {
     AllPass,
     Broken(u32),

@@ -1,7 +1,7 @@
 // What a run keeps from byte to byte beside the words of its lists, by value.
 use text::{Reader, start};
 
-#[derive(Drop)]
+#[derive(Clone, Copy)]
 pub struct Kept {
     pub reader: Reader,
     // the run is over, with an error line or with the input

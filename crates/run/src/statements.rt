@@ -45,7 +45,7 @@ const UNKNOWN: u32 = 4;
 const JUNK: u32 = 0xffff_ffff;
 
 // How many words a list has, with those that are new.
-#[derive(Drop)]
+#[derive(Clone, Copy)]
 enum Grown {
     To(usize),
     NoRoom,

@@ -11,7 +11,7 @@ ghost use Rattle.spine.specs.Walks.{Walks, HasChild, Walked, Argument, Counted, 
 use rows::writer::make;
 use rows::{Out, Ptr, Shape, kind_of, pair_of, row_at, shift_up};
 
-#[derive(Drop)]
+#[derive(Clone, Copy)]
 pub struct Spined {
     pub head: Ptr,
     pub count: u32,

@@ -3,7 +3,7 @@ use rows::Ptr;
 
 // What stays the same in a call: library rows, depth, the budget of steps, and the declaration that holds each role, by the role's code
 // (NOBODY where none does).
-#[derive(Drop)]
+#[derive(Clone, Copy)]
 pub struct Given {
     pub nlib: u32,
     pub depth: u32,
@@ -14,14 +14,14 @@ pub struct Given {
 pub const NOBODY: u32 = 0xffff_ffff;
 
 // What is used up: scratch rows and steps.
-#[derive(Drop)]
+#[derive(Clone, Copy)]
 pub struct Meter {
     pub mark: u32,
     pub steps: u32,
 }
 
 // A term with the meter after it; final, no rule fires; or the refusal's number.
-#[derive(Drop)]
+#[derive(Clone, Copy)]
 pub enum Answer {
     Term(Ptr, Meter),
     Final(Meter),
@@ -29,7 +29,7 @@ pub enum Answer {
 }
 
 // A reduction's term with the meter after it, or the refusal's number.
-#[derive(Drop)]
+#[derive(Clone, Copy)]
 pub enum Reduced {
     To(Ptr, Meter),
     Refused(u32),

@@ -10,7 +10,7 @@ use super::clauses::{decl_ok, entry_ok, role_ok, scoped};
 use rows::Ptr;
 use rows::row_check::{Checked, check_rows};
 
-#[derive(Drop)]
+#[derive(Clone, Copy)]
 pub enum Verdict {
     Accepted,
     // number, place

@@ -12,7 +12,7 @@ pub mod accept;
 pub mod clauses;
 
 // A declaration's words that the head rules read.
-#[derive(Drop)]
+#[derive(Clone, Copy)]
 pub struct Decl {
     pub kind: u32,
     pub levels: u32,
@@ -28,20 +28,20 @@ pub struct Decl {
     pub rules: u32,
 }
 
-#[derive(Drop)]
+#[derive(Clone, Copy)]
 pub struct Rule {
     pub constructor: u32,
     pub fields: u32,
     pub value: Ptr,
 }
 
-#[derive(Drop)]
+#[derive(Clone, Copy)]
 pub enum RuleFound {
     Found(Rule),
     NoRule,
 }
 
-#[derive(Drop)]
+#[derive(Clone, Copy)]
 pub enum ValueFound {
     Found(Ptr),
     NoValue,
@@ -50,7 +50,7 @@ pub enum ValueFound {
 // The declaration that holds each role, by the role's code; NOBODY where none does.
 pub const NOBODY: u32 = 0xffff_ffff;
 
-#[derive(Drop)]
+#[derive(Clone, Copy)]
 pub struct Holders {
     pub of: [u32; 16],
 }

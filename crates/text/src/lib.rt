@@ -10,7 +10,7 @@ ghost use Rattle.text.specs.Feeding.{stopped as stoppedAt, commented as commente
 pub const LONG: u64 = 0x100_0000_0000_0000;
 
 // What is under way, and how far it is read.
-#[derive(Drop)]
+#[derive(Clone, Copy)]
 pub enum Part {
     Gap,
     Word(u64),
@@ -18,14 +18,14 @@ pub enum Part {
     Comment,
 }
 
-#[derive(Drop)]
+#[derive(Clone, Copy)]
 pub struct Reader {
     // the line's number, from 1
     pub line: u64,
     pub part: Part,
 }
 
-#[derive(Drop)]
+#[derive(Clone, Copy)]
 pub enum Token {
     Nothing,
     Word(u64),
@@ -37,14 +37,14 @@ pub enum Token {
 }
 
 // What a byte completes: at most one token, and perhaps the line.
-#[derive(Drop)]
+#[derive(Clone, Copy)]
 pub struct Fed {
     pub reader: Reader,
     pub token: Token,
     pub ends: bool,
 }
 
-#[derive(Drop)]
+#[derive(Clone, Copy)]
 pub enum Digits {
     Value(u32),
     TooLarge,
