@@ -5,7 +5,7 @@ usage: python3 tools/respell.py [--edits] [FOLDER]
 
 FOLDER has crates/; without it, the folder above tools/. Each line of tools/respell.tsv is an old name, its new name and, where a name means
 two things, the files in which the line holds. Names are replaced as whole words of antt: in .antt files, in the code of .rt files, in comments
-between backticks, and with --edits in must-fail/*.edit. No name of Rust code is in the table. A second run changes nothing.
+between backticks, and with --edits in must-fail/*.edit. No name of Rust code is in the table. Run it once: a few new names are old names of others.
 """
 
 import os

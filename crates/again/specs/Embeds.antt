@@ -8,7 +8,7 @@ use mathlib.Core.List.{List, [], ◌∷◌, ◌++◌, map, append_assoc}
 use Rattle.std.proofs.lemmas.List.{length-map}
 use Rattle.std.proofs.Math.ListN.{get_or-map}
 use Rattle.rules.specs.Kinds.{Tag, plain, term, body, table, fields}
-use Rattle.rules.specs.Rows.{Ptr, ptr, Row, var, node, Cell, Store, cell_at, row_at, bound_on, bound, up_on, up, field_bound_lem, field_height, cell, grow, put}
+use Rattle.rules.specs.Rows.{Ptr, ptr, Row, var, node, Cell, Store, cell_at, row_at, bound_on, bound, up_on, up, field_bound, field_height, cell, grow, put}
 use Rattle.rules.specs.RowCheck.{Fits}
 use Rattle.rules.specs.Firings.{AllFit, none_left, and_then, Written}
 use Rattle.rules.specs.Refusals.{RowDue}
@@ -79,8 +79,8 @@ module _ (ρ : ℕ → ℕ) where
 
   -- A ROW'S BOUND AND HEIGHT
 
-  field_bound_lem : {s s̃ : Store} → Embeds s s̃ → (τ : Tag) (p : Ptr) → field_bound_lem s̃ τ (ren_field τ p) ≡ field_bound_lem s τ p
-  unfolding field_bound_lem
+  field_bound_lem : {s s̃ : Store} → Embeds s s̃ → (τ : Tag) (p : Ptr) → field_bound s̃ τ (ren_field τ p) ≡ field_bound s τ p
+  unfolding field_bound
   field_bound_lem m plain p = refl
   field_bound_lem m term p = bound_at m p
   field_bound_lem m body p = ap pred (bound_at m p)

@@ -2,7 +2,7 @@
 use Rattle.std.specs.Prelude.{ℕ, ◌+◌, ◌-◌, List, length}
 use Rattle.std.proofs.Math.Option.{Option, none, some}
 use Rattle.rules.specs.Kinds.{fields, app}
-use Rattle.rules.specs.Rows.{Ptr, ptr, blank, Row, node, Store, cell, cell_at, field_bound_lem, field_height, grow}
+use Rattle.rules.specs.Rows.{Ptr, ptr, blank, Row, node, Store, cell, cell_at, field_bound, field_height, grow}
 use Rattle.rules.specs.Declarations.{Role, Form, plain, Decl, Entry, Env, nth, decl_at, holder_from, holder, value_of}
 use Rattle.rules.specs.Spines.{joined}
 use Rattle.rules.specs.Arithmetic.{compute}
@@ -61,7 +61,7 @@ pub record Seen : Type 0 where
 
 -- the evaluator's answer over one library and one list of declarations
 unfoldable pub seen : List Decl → Store → Case → Seen
-unfolding answer_of read_of eval side_at loop at_the_head try fire emit due_of give spine_by replace_by on_row cmp app_view fit_view number_view rules at_row constant ◌or-else◌ delta arithmetic recursion quot projection variable lambda unfolds outcome operands by_rule rule_for as_constructor number_made rec_parts quot_made quot_parts field_at as_number as_constant compute joined value_of holder holder_from decl_at nth fields cell cell_at field_bound_lem field_height grow
+unfolding answer_of read_of eval side_at loop at_the_head try fire emit due_of give spine_by replace_by on_row cmp app_view fit_view number_view rules at_row constant ◌or-else◌ delta arithmetic recursion quot projection variable lambda unfolds outcome operands by_rule rule_for as_constructor number_made rec_parts quot_made quot_parts field_at as_number as_constant compute joined value_of holder holder_from decl_at nth fields cell cell_at field_bound field_height grow
 seen ds s c =
     let r : Res = eval (declared ds c.context) (record { steps = c.steps; rows = length s + c.free }) c.nesting s c.asked in
     record { answer = answer_of s r; reads = read_of r }

@@ -8,7 +8,7 @@ use mathlib.Core.List.{List, [], ◌∷◌}
 use Rattle.std.proofs.Math.Option.{Option, none, some}
 use Rattle.rules.specs.Maxima.{most_level}
 use Rattle.rules.specs.Kinds.{sort, proj, table, fields}
-use Rattle.rules.specs.Rows.{Ptr, blank, Row, node, Store, row_at, bound, up, field_bound_lem, cell, put}
+use Rattle.rules.specs.Rows.{Ptr, blank, Row, node, Store, row_at, bound, up, field_bound, cell, put}
 use Rattle.rules.specs.RowCheck.{sort_in, proj_in, plain_ok, term_ok, AllPass, InScope}
 use Rattle.rules.specs.Declarations.{Decl, Env}
 use Rattle.rules.specs.Accepted.{Closed}
@@ -120,7 +120,7 @@ unfolding fields table
 projection_fields c j g = node_fields (term_ok g) (plain_ok refl) (plain_ok refl)
 
 projection_bound : (s : Store) (X : Ptr) (c j : ℕ) → (cell s (node (proj c j) X blank blank)).bound ≡ bound s X
-unfolding cell field_bound_lem fields table
+unfolding cell field_bound fields table
 projection_bound s X c j = omega arith
 
 -- a closed body

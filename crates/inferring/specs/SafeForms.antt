@@ -4,7 +4,7 @@ use Rattle.std.proofs.Common.{arith, sym, subst}
 use Rattle.std.proofs.Math.Option.{none, some}
 use Rattle.rules.specs.Maxima.{most_level}
 use Rattle.rules.specs.Kinds.{sort, const, app, lam, pi, let', proj, num, table, fields}
-use Rattle.rules.specs.Rows.{Ptr, blank, Row, var, node, leaf, Store, row_at, up, field_bound_lem, cell}
+use Rattle.rules.specs.Rows.{Ptr, blank, Row, var, node, leaf, Store, row_at, up, field_bound, cell}
 use Rattle.rules.specs.RowCheck.{sort_in, const_in, pi_in, proj_in, plain_ok, term_ok, body_ok, AllPass, InScope}
 use Rattle.rules.specs.Declarations.{nat, Env, decl_at, holder}
 use Rattle.rules.specs.Inference.{type_of, under, imax}
@@ -29,11 +29,11 @@ unfolding fields table
 sort-fields s l = node_fields (plain_ok refl) (plain_ok refl) (plain_ok refl)
 
 sort-bound : (s : Store) (l : ℕ) → (cell s (leaf (sort l))).bound ≡ 0
-unfolding cell field_bound_lem fields table
+unfolding cell field_bound fields table
 sort-bound s l = omega arith
 
 const-bound : (s : Store) (c n : ℕ) → (cell s (leaf (const c n))).bound ≡ 0
-unfolding cell field_bound_lem fields table
+unfolding cell field_bound fields table
 const-bound s c n = omega arith
 
 pi-fields : {s : Store} {X B : Ptr} → Good s X → Good s B → FieldsOk s (length s) (node pi X B blank)

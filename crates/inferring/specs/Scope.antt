@@ -4,7 +4,7 @@ use Rattle.std.specs.Prelude.{ℕ, zero, suc, ◌+◌, ◌≤◌, ◌<◌, pred,
 use Rattle.std.proofs.Common.{arith, ap}
 use Rattle.std.proofs.Math.Option.{none, some}
 use Rattle.rules.specs.Kinds.{lam, pi, table, fields}
-use Rattle.rules.specs.Rows.{Ptr, Row, node, Cell, Store, cell_at, bound_on, bound, up, field_bound_lem, cell, Got, put}
+use Rattle.rules.specs.Rows.{Ptr, Row, node, Cell, Store, cell_at, bound_on, bound, up, field_bound, cell, Got, put}
 use Rattle.rules.specs.RowCheck.{InScope}
 use Rattle.rules.specs.Replacement.{Replaces}
 use Rattle.rules.specs.Spines.{joined}
@@ -24,11 +24,11 @@ shared zero m k d h l z = absurd (omega arith)
 shared (suc n) m k d h l z = omega arith
 
 lambda_bound : (s : Store) (x y z : Ptr) → (cell s (node lam x y z)).bound ≡ max (max (bound s x) (pred (bound s y))) 0
-unfolding cell field_bound_lem fields table
+unfolding cell field_bound fields table
 lambda_bound s x y z = refl
 
 pub pi-bound : (s : Store) (x y z : Ptr) → (cell s (node pi x y z)).bound ≡ max (max (bound s x) (pred (bound s y))) 0
-unfolding cell field_bound_lem fields table
+unfolding cell field_bound fields table
 pi-bound s x y z = refl
 
 module _ {D : ℕ} {s : Store} {d k : ℕ} {x y z : Ptr} where

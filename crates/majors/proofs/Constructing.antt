@@ -35,7 +35,7 @@ use Rattle.state.specs.declared.Meter.{Meter}
 use Rattle.state.specs.State.{limits_in, Used}
 use Rattle.majors.specs.declared.Made.{Made}
 use Rattle.majors.specs.declared.Made.TheVariants.{As, Nothing, Refused}
-use Rattle.majors.specs.Majors.{nobody, held_by_lem, Agrees, head_row, major_of, MadeAs, Constructed, ConstantMade, constant_in, succ_in, made_from}
+use Rattle.majors.specs.Majors.{nobody, held_by, Agrees, head_row, major_of, MadeAs, Constructed, ConstantMade, constant_in, succ_in, made_from}
 use Rattle.majors.proofs.NumberRows.{constant_charged, succ_charged, succ_rows, with_both, more_pass, LastRow, constant_last, succ_last}
 
 -- the three ways out are apart
@@ -59,12 +59,12 @@ as_same {c} {c'} {p} {p'} {sp} {sp'} {m} {m'} P q x =
 
 -- WHO HOLDS A ROLE
 
-nobody_holds : (hs : List ℕ) (code : ℕ) → get_or hs code 0 ≡ nobody → held_by_lem hs code ≡ none
-unfolding held_by_lem
+nobody_holds : (hs : List ℕ) (code : ℕ) → get_or hs code 0 ≡ nobody → held_by hs code ≡ none
+unfolding held_by
 nobody_holds hs code e = ap (λ (b : Bool). ite b none (some (get_or hs code 0))) (eq-eqb _ _ e)
 
-somebody_holds : (hs : List ℕ) (code : ℕ) → (get_or hs code 0 ≡ nobody → ⊥) → held_by_lem hs code ≡ some (get_or hs code 0)
-unfolding held_by_lem
+somebody_holds : (hs : List ℕ) (code : ℕ) → (get_or hs code 0 ≡ nobody → ⊥) → held_by hs code ≡ some (get_or hs code 0)
+unfolding held_by
 somebody_holds hs code f = ap (λ (b : Bool). ite b none (some (get_or hs code 0))) (ne_eqb _ _ f)
 
 -- A NUMBER AS THE RULES MAKE IT

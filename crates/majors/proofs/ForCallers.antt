@@ -20,7 +20,7 @@ use Rattle.state.specs.declared.Answer.{Answer}
 use Rattle.state.specs.State.{tally_of, limits_in, Left}
 use Rattle.tables.specs.Read as tables
 use Rattle.tables.specs.Env.{env_of}
-use Rattle.majors.specs.Majors.{held_by_lem, Agrees, OutcomeLeft, ruled_by}
+use Rattle.majors.specs.Majors.{held_by, Agrees, OutcomeLeft, ruled_by}
 
 pub outcome_left : {l sc : List ℕ} {g : Given} {m : Meter} {o : Outcome} {r : Answer} {sc' : List ℕ} → OutcomeLeft l sc g m o r sc' →
     (e : Env) → Agrees e g.holders → (c : Computed) → meaning o ≡ settled c → (r' : Result) → outcome e c ≡ some r' →
@@ -40,5 +40,5 @@ ruled_is o a xs = refl
 
 -- the environment that the words stand for agrees with the holders that were read from them
 pub holders_agree : (ds rs cs hs : List ℕ) (depth : ℕ) → tables.HoldersOf ds hs → Agrees (env_of ds rs cs depth) hs
-unfolding held_by_lem tables.held_by_lem
+unfolding held_by tables.held_by
 holders_agree ds rs cs hs depth h = record { holds = λ ρ low. sym (h.holds rs cs depth ρ low) }

@@ -9,7 +9,7 @@ use mathlib.Core.Option.{Option, none, some}
 use lib.ListN.{length}
 use Rattle.rules.specs.Maxima.{most_number}
 use Rattle.rules.specs.Kinds.{Kind, const, app, num, plain, tags, table, fields}
-use Rattle.rules.specs.Rows.{Ptr, ptr, blank, Row, node, leaf, Cell, Store, cell_at, row_at, bound, up, field_bound_lem, cell, grow, Got, got, put}
+use Rattle.rules.specs.Rows.{Ptr, ptr, blank, Row, node, leaf, Cell, Store, cell_at, row_at, bound, up, field_bound, cell, grow, Got, got, put}
 use Rattle.rules.specs.RowCheck.{InRange, sort_in, const_in, app_in, lam_in, pi_in, let_in, proj_in, num_in, plain_ok, RowOk, var_ok, node_ok, AllPass, InScope}
 use Rattle.rules.specs.Spines.{Spine, head, through, NoApp, no_const, joined}
 use Rattle.rules.specs.Firings.{a_number, a_constant}
@@ -111,11 +111,11 @@ module _ {D : ℕ} (most : ℕ) {s : Store} {g : Got} (pass : AllPass D s) where
 -- a closed row at the end
 module _ (s : Store) where
   constant_closed : (c : ℕ) → (cell_at (put s (leaf (const c 0))).store (length s)).bound ≡ 0
-  unfolding cell field_bound_lem fields table
+  unfolding cell field_bound fields table
   constant_closed c = ap (λ (x : Cell). x.bound) (end_cell s (cell s (leaf (const c 0))))
 
   number_closed : (n : ℕ) → (cell_at (put s (leaf (num n))).store (length s)).bound ≡ 0
-  unfolding cell field_bound_lem fields table
+  unfolding cell field_bound fields table
   number_closed n = ap (λ (x : Cell). x.bound) (end_cell s (cell s (leaf (num n))))
 
 closed_scope : (s : Store) (r d : ℕ) → r < length s → (cell_at s r).bound ≡ 0 → InScope s d (ptr r 0)
@@ -125,7 +125,7 @@ closed_up : (s : Store) (r : ℕ) → (cell_at s r).bound ≡ 0 → up s (ptr r 
 closed_up s r e = rw e
 
 app_closed : (s : Store) (f a : ℕ) → (cell_at s f).bound ≡ 0 → (cell_at s a).bound ≡ 0 → (cell s (node app (ptr f 0) (ptr a 0) blank)).bound ≡ 0
-unfolding cell field_bound_lem fields table
+unfolding cell field_bound fields table
 app_closed s f a e q = rw (e, q)
 
 -- WHAT STANDS AT THE LAST ROW

@@ -31,14 +31,14 @@ use Rattle.state.specs.declared.Meter.{Meter}
 use Rattle.state.specs.declared.Answer.{Answer}
 use Rattle.state.specs.declared.Answer.TheVariants as answer
 use Rattle.state.specs.State.{tally_of, limits_in, Left}
-use Rattle.majors.specs.Majors.{nobody, held_by_lem, Agrees, answered, truth_code, OutcomeLeft}
+use Rattle.majors.specs.Majors.{nobody, held_by, Agrees, answered, truth_code, OutcomeLeft}
 use Rattle.majors.proofs.Firing.{no_step, too_large_stops, number_due, constant_due, fired_left, stopped_left}
 
 -- WHO HOLDS A ROLE
 
 -- an entry that is held is the holder
-pub holder_is : (hs : List ℕ) (code : ℕ) {d : ℕ} → held_by_lem hs code ≡ some d → get_or hs code 0 ≡ d
-unfolding held_by_lem
+pub holder_is : (hs : List ℕ) (code : ℕ) {d : ℕ} → held_by hs code ≡ some d → get_or hs code 0 ≡ d
+unfolding held_by
 holder_is hs code {d} = go (eqb (get_or hs code 0) nobody)
   where
     go : (b : Bool) → ite b none (some (get_or hs code 0)) ≡ some d → get_or hs code 0 ≡ d

@@ -47,12 +47,12 @@ abbrev pub nobody : ℕ
 nobody = 4294967295
 
 -- the table of holders at a role's code
-unfoldable pub held_by_lem : List ℕ → ℕ → Option ℕ
-held_by_lem hs code = ite (eqb (get_or hs code 0) nobody) none (some (get_or hs code 0))
+unfoldable pub held_by : List ℕ → ℕ → Option ℕ
+held_by hs code = ite (eqb (get_or hs code 0) nobody) none (some (get_or hs code 0))
 
 -- the code knows the table alone; a contract speaks of every environment that agrees with it
 pub record Agrees (e : Env) (hs : List ℕ) : Type 0 where
-  pub holds : (ρ : Role) → 1 ≤ role_code ρ → holder e ρ ≡ held_by_lem hs (role_code ρ)
+  pub holds : (ρ : Role) → 1 ≤ role_code ρ → holder e ρ ≡ held_by hs (role_code ρ)
 
 -- THE MAJOR AS A NUMBER
 
@@ -78,7 +78,7 @@ pub record MayFire (l sc : List ℕ) (g : Given) (m : Meter) : Type 0 where
 
 -- a truth value is written only where true and false are held
 pub record TruthHeld (hs : List ℕ) (o : Outcome) : Type 0 where
-  pub both : (b : Bool) → o ≡ Truth b → (held_by_lem hs 4 ≡ none → ⊥) × (held_by_lem hs 5 ≡ none → ⊥)
+  pub both : (b : Bool) → o ≡ Truth b → (held_by hs 4 ≡ none → ⊥) × (held_by hs 5 ≡ none → ⊥)
 
 -- rows written in a firing whose step is there
 abbrev pub answered : Meter → Out → Answer

@@ -8,7 +8,7 @@ use lib.ListN.{length}
 use Rattle.rules.specs.Maxima.{most_level}
 use Rattle.rules.specs.Kinds.{sort, const, pi, proj, table, fields}
 use Rattle.rules.specs.Rows as rules
-use Rattle.rules.specs.Rows.{Row, node, leaf, blank, Store, bound, field_bound_lem, cell}
+use Rattle.rules.specs.Rows.{Row, node, leaf, blank, Store, bound, field_bound, cell}
 use Rattle.rules.specs.RowCheck.{InScope, sort_in, const_in, pi_in, proj_in, plain_ok, term_ok, body_ok}
 use Rattle.course.specs.Charged.{put_in}
 use Rattle.substitution.specs.Stores.{FieldsOk, node_fields, Good, scope_good}
@@ -95,7 +95,7 @@ module _ {h : Here} (ready : Ready h) where
     proj-fields = node_fields (term_ok (scope_good structure)) (plain_ok refl) (plain_ok refl)
 
     proj-bound : (cell s (node (proj c j) (ptr_of x) blank blank)).bound ≡ bound s (ptr_of x)
-    unfolding cell field_bound_lem fields table
+    unfolding cell field_bound fields table
     proj-bound = omega arith
 
     pub made_proj_gives : c < decl_count (env_at h) → (n : ℕ) {r : Reduced} {sc : List ℕ} →
@@ -115,7 +115,7 @@ module _ {h : Here} (ready : Ready h) where
     sort-fields = node_fields (plain_ok refl) (plain_ok refl) (plain_ok refl)
 
     sort-bound : (cell s (leaf (sort l))).bound ≡ 0
-    unfolding cell field_bound_lem fields table
+    unfolding cell field_bound fields table
     sort-bound = refl
 
     may_make_sort : l ≤ most_level → Writable h (sort_shape l)
@@ -133,7 +133,7 @@ module _ {h : Here} (ready : Ready h) where
     const_fields = node_fields (plain_ok refl) (plain_ok refl) (plain_ok refl)
 
     const-bound : (cell s (leaf (const c 0))).bound ≡ 0
-    unfolding cell field_bound_lem fields table
+    unfolding cell field_bound fields table
     const-bound = refl
 
     pub made_const_gives : c < decl_count (env_at h) → (n : ℕ) {r : Reduced} {sc : List ℕ} →

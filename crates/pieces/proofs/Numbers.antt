@@ -16,7 +16,7 @@ use Rattle.course.specs.Charged.{put_in}
 use Rattle.safety.specs.Sane.{holder_below}
 use Rattle.inferring.specs.Asks.{answers, writes, if_there, number_type}
 use Rattle.rows.specs.Words.{ite, store_of}
-use Rattle.tables.specs.Read.{nobody, held_by_lem}
+use Rattle.tables.specs.Read.{nobody, held_by}
 use Rattle.state.specs.declared.Given.{Given}
 use Rattle.state.specs.declared.Meter.{Meter}
 use Rattle.state.specs.declared.Reduced.{Reduced}
@@ -31,10 +31,10 @@ use Rattle.pieces.proofs.Forms.{begins_as, no_type}
 module _ (l sc : List ℕ) (g : Given) (m : Meter) (c : ℕ) (read : c ≡ get_or g.holders 1 0) where
   -- the holder in any call with these rows
   held_as : (ds rs cs : List ℕ) → Ready (here l ds rs cs sc g m) → (b : Bool) → eqb c nobody ≡ b → holder (env_at (here l ds rs cs sc g m)) nat ≡ ite b none (some c)
-  unfolding held_by_lem
+  unfolding held_by
   held_as ds rs cs ready b e =
       sym (ready.stand.tabled.holders.holds rs cs g.depth nat (omega arith))
-      ∙ ap held_by_lem (sym read)
+      ∙ ap held_by (sym read)
       ∙ ap (λ (t : Bool). ite t none (some c)) e
 
   pub nobody_holds : c ≡ nobody → NumberType l sc g m (Refused 9) sc

@@ -15,7 +15,7 @@ use Rattle.inferring.specs.Asks.{answers, if_there, variable_type}
 use Rattle.rows.specs.declared.Ptr.{Ptr}
 use Rattle.rows.specs.Words.{ptr_of, whole, Stands}
 use Rattle.rows.proofs.Store.{held_length, used_stands, up_used}
-use Rattle.records.specs.Read.{type_variants, TypeOf}
+use Rattle.records.specs.Read.{found_type, TypeOf}
 use Rattle.records.specs.declared.TypeFound.{TypeFound}
 use Rattle.records.specs.declared.TypeFound.TheVariants as found
 use Rattle.state.specs.declared.Given.{Given}
@@ -27,18 +27,18 @@ use Rattle.typing.specs.Here.{here, env_at, store_at, Scope, Ready}
 use Rattle.pieces.specs.Leaves.{LocalReady, LocalType}
 use Rattle.pieces.proofs.Forms.{no_type, a_type}
 
-module _ (l cs sc : List ℕ) (g : Given) (m : Meter) (i : ℕ) (x : TypeFound) (types : TypeOf cs g.depth i (type_variants x)) where
+module _ (l cs sc : List ℕ) (g : Given) (m : Meter) (i : ℕ) (x : TypeFound) (types : TypeOf cs g.depth i (found_type x)) where
   pub no_local : x ≡ found.NoType → LocalType l cs sc g m i (Refused 9)
   unfolding variable_type
   no_local is = record {
     is = λ n ds rs ready.
         no_type ready (ap (λ (o : Option rules.Ptr). if_there o λ y. answers (up (store_at (here l ds rs cs sc g m)) y (suc i)))
-        (sym (types.type ds rs) ∙ ap type_variants is));
+        (sym (types.type ds rs) ∙ ap found_type is));
   }
 
   module _ (ty : Ptr) (is : x ≡ found.Found ty) where
     type_there : (ds rs : List ℕ) → type_of (env_at (here l ds rs cs sc g m)) i ≡ some (ptr_of ty)
-    type_there ds rs = sym (types.type ds rs) ∙ ap type_variants is
+    type_there ds rs = sym (types.type ds rs) ∙ ap found_type is
 
     module _ (ds rs : List ℕ) (ready : Ready (here l ds rs cs sc g m)) where
       -- in scope where the record stands

@@ -16,7 +16,7 @@ use Rattle.rules.specs.HeadTests.{given}
 use Rattle.rules.specs.Refusals.{Limits}
 use Rattle.course.specs.Views.{Cmp, up_to, over, cmp, FitView, fits, no_fit, fit_view}
 use Rattle.course.specs.Eval.{on_index, on_field, on_row, on_ptr, replace_by, give, due_of, emit_on, emit, charge}
-use Rattle.course.specs.Charged.{Out, wrote, refused, and_on, put_on, put_in, join_in, index_in, field_in, row_in, ptr_in, replace_in, give_in, due_in_lem}
+use Rattle.course.specs.Charged.{Out, wrote, refused, and_on, put_on, put_in, join_in, index_in, field_in, row_in, ptr_in, replace_in, give_in, due_in}
 use Rattle.substitution.specs.Stores.{Ext, ext_same, ext_then, ext_put}
 
 abbrev pub settle_on : Got → Option ℕ → Out
@@ -140,8 +140,8 @@ module _ (lim : Limits) where
   give_charges s (a_number n) = put_charges s (leaf (num n))
   give_charges s (a_constant d) = put_charges s (leaf (const d 0))
 
-  pub due_charges : (s : Store) (r : Result) (xs : List Ptr) → Charges s (due_of s r xs) (due_in_lem lim.rows s r xs)
-  unfolding due_of due_in_lem
+  pub due_charges : (s : Store) (r : Result) (xs : List Ptr) → Charges s (due_of s r xs) (due_in lim.rows s r xs)
+  unfolding due_of due_in
   due_charges s r xs = and_then_charges (give_charges s r) λ g. join_charges g.store g.at xs
 
   -- WHAT CODE CITES
@@ -154,5 +154,5 @@ module _ (lim : Limits) where
   pub give_in_lem : (s : Store) (r : Result) {g : Got} → give s r ≡ some g → give_in lim.rows s r ≡ settle lim s g
   give_in_lem s r q = settled (give_charges s r) q
 
-  pub due_in_lem : (s : Store) (r : Result) (xs : List Ptr) {g : Got} → due_of s r xs ≡ some g → due_in_lem lim.rows s r xs ≡ settle lim s g
+  pub due_in_lem : (s : Store) (r : Result) (xs : List Ptr) {g : Got} → due_of s r xs ≡ some g → due_in lim.rows s r xs ≡ settle lim s g
   due_in_lem s r xs q = settled (due_charges s r xs) q

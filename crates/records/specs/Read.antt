@@ -19,9 +19,9 @@ use Rattle.records.specs.declared.PiFound.TheVariants as pi_variants
 abbrev pub type_read : List ℕ → Ptr
 type_read ws = record { row = get_or ws 2 0; shift = get_or ws 3 0 }
 
-abbrev pub type_variants : TypeFound → Option rules.Ptr
-type_variants (type_variants.Found p) = some (ptr_of p)
-type_variants type_variants.NoType = none
+abbrev pub found_type : TypeFound → Option rules.Ptr
+found_type (type_variants.Found p) = some (ptr_of p)
+found_type type_variants.NoType = none
 
 -- the type of variable i, whatever the declarations and the rules are
 pub record TypeOf (cs : List ℕ) (depth i : ℕ) (x : Option rules.Ptr) : Type 0 where

@@ -2,7 +2,7 @@
 ghost use Rattle.std.specs.Prelude.{◌≡◌, ◌++◌, suc, ◌+◌, ◌*◌, ◌-◌, ◌≤◌, length, drop};
 ghost use Rattle.rules.specs.Accepted.{part};
 ghost use Rattle.rows.specs.Words.{shape_at, words_at, Stands};
-ghost use Rattle.records.specs.Read.{type_read, type_variants, TypeOf, sort_read, pi_read};
+ghost use Rattle.records.specs.Read.{type_read, found_type, TypeOf, sort_read, pi_read};
 ghost use Rattle.records.specs.Write.{record_of, pushed, cleared_from};
 
 use rows::{Ptr, row_at, shape_of};
@@ -50,7 +50,7 @@ fn record_of(depth: u32, i: u32) -> u32
 // The context type of variable i.
 pub fn type_of(context: &[u32], depth: u32, i: u32) -> TypeFound
     requires { 5 * depth ≤ length context.now }
-    ensures { TypeOf context.now depth i (type_variants result) }
+    ensures { TypeOf context.now depth i (found_type result) }
 {
     if depth == 0 {
         return TypeFound::NoType;

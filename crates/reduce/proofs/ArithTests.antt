@@ -18,7 +18,7 @@ use Rattle.arith.specs.declared.Outcome.{Outcome}
 use Rattle.arith.specs.Meaning as said
 use Rattle.arith.specs.Meaning.{words, refusal, pick, meaning, settled}
 use Rattle.rows.specs.Words.{ite}
-use Rattle.majors.specs.Majors.{nobody, held_by_lem, Agrees, TruthHeld}
+use Rattle.majors.specs.Majors.{nobody, held_by, Agrees, TruthHeld}
 use Rattle.cycle.proofs.Tests.{not_an_operation, truths_not_held}
 use Rattle.reduce.specs.Members.{is_tried}
 
@@ -53,7 +53,7 @@ module _ {e : Env} {hs : List ℕ} (agrees : Agrees e hs) where
   -- WHICH ROLES ARE TRIED
 
   truths_tested : ite (eqb (get_or hs 4 0) nobody) false (not (eqb (get_or hs 5 0) nobody)) ≡ both (held (holder e true')) (held (holder e false'))
-  unfolding held_by_lem
+  unfolding held_by
   truths_tested =
       rw (agrees.holds true' (omega O.arith), agrees.holds false' (omega O.arith)) (on (eqb (get_or hs 4 0) nobody) (eqb (get_or hs 5 0) nobody))
     where
@@ -134,11 +134,11 @@ module _ {e : Env} {hs : List ℕ} (agrees : Agrees e hs) where
       on true q = let z : ◌≡◌ {A = ℕ} 0 1 = cc in omega O.arith
       on false q = let z : ◌≡◌ {A = ℕ} 0 1 = cc in omega O.arith
 
-  both_held : both (held (holder e true')) (held (holder e false')) ≡ true → (held_by_lem hs 4 ≡ none → ⊥) × (held_by_lem hs 5 ≡ none → ⊥)
+  both_held : both (held (holder e true')) (held (holder e false')) ≡ true → (held_by hs 4 ≡ none → ⊥) × (held_by hs 5 ≡ none → ⊥)
   both_held q = on (holder e true') (holder e false') (agrees.holds true' (omega O.arith)) (agrees.holds false' (omega O.arith)) q
     where
-      on : (x y : Option ℕ) → x ≡ held_by_lem hs 4 → y ≡ held_by_lem hs 5 → both (held x) (held y) ≡ true →
-          (held_by_lem hs 4 ≡ none → ⊥) × (held_by_lem hs 5 ≡ none → ⊥)
+      on : (x y : Option ℕ) → x ≡ held_by hs 4 → y ≡ held_by hs 5 → both (held x) (held y) ≡ true →
+          (held_by hs 4 ≡ none → ⊥) × (held_by hs 5 ≡ none → ⊥)
       on none y p r q = absurd (false_true q)
       on (some c) none p r q = absurd (false_true q)
       on (some c) (some d) p r q = (λ z. let n : ◌≡◌ {A = ℕ} 0 1 = cc in omega O.arith, λ z. let n : ◌≡◌ {A = ℕ} 0 1 = cc in omega O.arith)
@@ -147,7 +147,7 @@ module _ {e : Env} {hs : List ℕ} (agrees : Agrees e hs) where
   unfolding settled compute
   truth_held o q a b r m = record { both = λ v z. on o q (sym (ap meaning z) ∙ m) }
     where
-      on : (o : Op) → tried e o ≡ true → {v : Bool} → said.truth v ≡ settled (compute o a b) → (held_by_lem hs 4 ≡ none → ⊥) × (held_by_lem hs 5 ≡ none → ⊥)
+      on : (o : Op) → tried e o ≡ true → {v : Bool} → said.truth v ≡ settled (compute o a b) → (held_by hs 4 ≡ none → ⊥) × (held_by hs 5 ≡ none → ⊥)
       on add q w = absurd (no_truth (a + b) w)
       on sub q w = absurd (no_truth (a - b) w)
       on mul q w = absurd (no_truth (a * b) w)

@@ -9,7 +9,7 @@ use lib.ListN.{length}
 use Rattle.rules.specs.Maxima.{most_bound}
 use Rattle.rules.specs.Kinds.{Kind, Tag, plain, term, body, Tags, fields}
 use Rattle.rules.specs.Rows as rules
-use Rattle.rules.specs.Rows.{Row, var, node, Cell, Store, cell, cell_at, row_at, bound_on, bound, field_bound_lem, field_height}
+use Rattle.rules.specs.Rows.{Row, var, node, Cell, Store, cell, cell_at, row_at, bound_on, bound, field_bound, field_height}
 use Rattle.rules.specs.RowCheck.{FieldOk, term_ok, body_ok}
 use Rattle.course.specs.Charged.{row_in, replace_in}
 use Rattle.substitution.specs.Stores.{FieldsOk, first_ok, second_ok, third_ok, Good, good_fields, ext_good_field, ext_field_height}
@@ -35,8 +35,8 @@ pub record Child (s : Store) (h : ℕ) (τ : Tag) (p : Ptr) : Type 0 where
   pub shift : (τ ≡ plain → ⊥) → p.shift ≤ 65536
 
 -- a child's shift is at most its bound, and is 0 if it is closed
-child_shift : (s : Store) (τ : Tag) (p : Ptr) → FieldOk s (length s) (shown τ (ptr_of p)) τ → field_bound_lem s τ (ptr_of p) ≤ most_bound → (τ ≡ plain → ⊥) → p.shift ≤ 65536
-unfolding field_bound_lem
+child_shift : (s : Store) (τ : Tag) (p : Ptr) → FieldOk s (length s) (shown τ (ptr_of p)) τ → field_bound s τ (ptr_of p) ≤ most_bound → (τ ≡ plain → ⊥) → p.shift ≤ 65536
+unfolding field_bound
 child_shift s plain p o b h = absurd (h refl)
 child_shift s term p (term_ok o) b h = go (cell_at s p.row).bound o.still b
   where
@@ -133,7 +133,7 @@ module _ (l sc : List ℕ) (nlib m row c : ℕ) (x : Sub) (given : RowReady l sc
       -- its bound and height are its fields' largest
       record Sizes : Type 0 where
         height : height_of l sc m row ≡ suc (max (max (field_height s (tag_at w.kind 0) (ptr_of w.first)) (field_height s (tag_at w.kind 1) (ptr_of w.second))) (field_height s (tag_at w.kind 2) (ptr_of w.third)))
-        bound : max (max (field_bound_lem s (tag_at w.kind 0) (ptr_of w.first)) (field_bound_lem s (tag_at w.kind 1) (ptr_of w.second))) (field_bound_lem s (tag_at w.kind 2) (ptr_of w.third)) ≤ most_bound
+        bound : max (max (field_bound s (tag_at w.kind 0) (ptr_of w.first)) (field_bound s (tag_at w.kind 1) (ptr_of w.second))) (field_bound s (tag_at w.kind 2) (ptr_of w.third)) ≤ most_bound
 
       sizes : Sizes
       sizes = go w.kind refl kind formed.kind

@@ -4,7 +4,7 @@ use Prim.Native.Nat.{ℕ, zero, suc, ◌≤◌, pred, max}
 use native.Mathlib.Omega.{arith}
 use mathlib.Core.Path.{◌≡◌, refl, sym, ap, subst, ◌∙◌}
 use Rattle.rules.specs.Kinds.{Kind, Tag, plain, term, body, Tags, fields}
-use Rattle.rules.specs.Rows.{Ptr, Row, var, node, Cell, Store, cell, cell_at, row_at, bound_on, field_bound_lem, field_height}
+use Rattle.rules.specs.Rows.{Ptr, Row, var, node, Cell, Store, cell, cell_at, row_at, bound_on, field_bound, field_height}
 use Rattle.rules.specs.RowCheck.{ChildOk, FieldOk, plain_ok, term_ok, body_ok, RowOk, var_ok, node_ok, Fits, Passes}
 use Rattle.rows.specs.Words.{kind_of, tags_at, tag_at, shown, row_by}
 use Rattle.rows.proofs.NineKinds.{fields_are, term_not_plain, body_not_plain, child_shown}
@@ -20,8 +20,8 @@ module _ (s t : Store) where
   abbrev pub Alike : Tag → Ptr → Type 0
   Alike g p = (g ≡ plain → ⊥) → cell_at s p.row ≡ cell_at t p.row
 
-  same_bound : (g : Tag) (p : Ptr) → Alike g p → field_bound_lem s g p ≡ field_bound_lem t g p
-  unfolding field_bound_lem
+  same_bound : (g : Tag) (p : Ptr) → Alike g p → field_bound s g p ≡ field_bound t g p
+  unfolding field_bound
   same_bound plain p e = refl
   same_bound term p e = ap (λ (x : Cell). bound_on x.bound p.shift) (e term_not_plain)
   same_bound body p e = ap (λ (x : Cell). pred (bound_on x.bound p.shift)) (e body_not_plain)

@@ -4,7 +4,7 @@ use Prim.Native.Nat.{ℕ, zero, suc, ◌≤◌, max}
 use native.Mathlib.Omega.{arith}
 use mathlib.Core.Path.{◌≡◌, refl, ap}
 use Rattle.rules.specs.Kinds.{Tag, plain, term, body, table, fields}
-use Rattle.rules.specs.Rows.{Ptr, node, Store, cell, field_bound_lem, field_height}
+use Rattle.rules.specs.Rows.{Ptr, node, Store, cell, field_bound, field_height}
 use Rattle.rows.specs.Words.{kind_of, tags_at, tag_at, shown, row_by}
 use Rattle.rows.specs.Checks.{tag_code}
 
@@ -49,8 +49,8 @@ kind_kept k a b a' b' h =
     k h
 
 -- what a field adds is read from its pair, also where a plain word's pair is shown as blank
-pub bound_shown : (s : Store) (t : Tag) (p : Ptr) → field_bound_lem s t (shown t p) ≡ field_bound_lem s t p
-unfolding field_bound_lem
+pub bound_shown : (s : Store) (t : Tag) (p : Ptr) → field_bound s t (shown t p) ≡ field_bound s t p
+unfolding field_bound
 bound_shown s plain p = refl
 bound_shown s term p = refl
 bound_shown s body p = refl
@@ -64,7 +64,7 @@ height_shown s body p = refl
 -- a row with a kind other than 0 takes its bound and height from its three pairs, by the table
 module _ (s : Store) (k : ℕ) (a b c : Ptr) (kind : suc k ≤ 8) where
   pub row_bound : (cell s (row_by (suc k) a b c)).bound
-      ≡ max (max (field_bound_lem s (tag_at (suc k) 0) a) (field_bound_lem s (tag_at (suc k) 1) b)) (field_bound_lem s (tag_at (suc k) 2) c)
+      ≡ max (max (field_bound s (tag_at (suc k) 0) a) (field_bound s (tag_at (suc k) 1) b)) (field_bound s (tag_at (suc k) 2) c)
   unfolding cell row_by
   row_bound = rw (fields_are (suc k) a b kind) (simp bound_shown)
 

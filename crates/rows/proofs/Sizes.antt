@@ -5,7 +5,7 @@ use native.Mathlib.Omega.{arith}
 use native.Mathlib.Numerals.{add-one}
 use mathlib.Core.Path.{◌≡◌, refl, sym, ap, ap₂, ◌∙◌}
 use Rattle.rules.specs.Kinds.{Tag, plain, term, body}
-use Rattle.rules.specs.Rows.{Ptr, Store, cell, cell_at, bound, field_bound_lem, field_height}
+use Rattle.rules.specs.Rows.{Ptr, Store, cell, cell_at, bound, field_bound, field_height}
 use Rattle.rows.specs.declared.kinds.Sizes.{Sizes}
 use Rattle.rows.specs.Words.{tag_at, row_by}
 use Rattle.rows.specs.Checks.{FieldAdds, sizes_of}
@@ -20,7 +20,7 @@ same_sizes z eb eh = λ i. record { bound = eb i; height = eh i }
 -- WHAT A FIELD ADDS
 
 pub plain_adds : (s : Store) (t : Tag) (p : Ptr) → t ≡ plain → FieldAdds s t p (sizes 0 0)
-unfolding field_bound_lem field_height
+unfolding field_bound field_height
 plain_adds s t p e = record { bound = rw e; height = rw e; word = omega arith }
 
 one_less : (n : ℕ) → n - 1 ≡ pred n
@@ -29,12 +29,12 @@ one_less (suc n) = omega arith
 
 module _ (s : Store) (t : Tag) (p : Ptr) (b h : ℕ) (is_bound : b ≡ bound s p) (is_height : (cell_at s p.row).height ≡ h) (word : h < 4294967296) where
   pub term_adds : t ≡ term → FieldAdds s t p (sizes b h)
-  unfolding field_bound_lem field_height
+  unfolding field_bound field_height
   term_adds e = record { bound = rw e is_bound; height = rw e (sym is_height); word = word }
 
   -- a body's bound is counted one less
   pub body_adds : (less : ℕ) → less ≡ b - 1 → t ≡ body → FieldAdds s t p (sizes less h)
-  unfolding field_bound_lem field_height
+  unfolding field_bound field_height
   body_adds less l e = record { bound = rw e (l ∙ one_less b ∙ ap pred is_bound); height = rw e (sym is_height); word = word }
 
 -- WHAT A ROW HAS

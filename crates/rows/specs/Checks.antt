@@ -2,7 +2,7 @@
 use Rattle.std.specs.Prelude.{ℕ, ◌+◌, ◌*◌, ◌≤◌, ◌<◌, ◌≡◌, Bool, true, false, List, [], ◌∷◌, ◌++◌, get_or, take}
 use Rattle.rules.specs.Maxima.{most_index, most_bound, most_height}
 use Rattle.rules.specs.Kinds.{Kind, Tag, plain, term, body}
-use Rattle.rules.specs.Rows.{Ptr, Row, var, node, Cell, Store, cell, field_bound_lem, field_height}
+use Rattle.rules.specs.Rows.{Ptr, Row, var, node, Cell, Store, cell, field_bound, field_height}
 use Rattle.rules.specs.RowCheck.{InRange, Fits, Passes}
 use Rattle.rules.specs.Accepted.{IsRow, Keep, Lowest}
 use Rattle.rows.specs.declared.Shape.{Shape}
@@ -45,7 +45,7 @@ sizes_of x = record { bound = x.bound; height = x.height }
 
 -- what a field adds to its row's bound and height; the height is a word
 pub record FieldAdds (s : Store) (t : Tag) (p : Ptr) (z : Sizes) : Type 0 where
-  pub bound : z.bound ≡ field_bound_lem s t p
+  pub bound : z.bound ≡ field_bound s t p
   pub height : z.height ≡ field_height s t p
   pub word : z.height < 4294967296
 

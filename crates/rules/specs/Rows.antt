@@ -57,10 +57,10 @@ abbrev pub up : Store → Ptr → ℕ → Ptr
 up s p k = up_on (cell_at s p.row).bound p k
 
 -- what a field adds to its row's bound and height: "a body's counted one less (not below 0)"
-unfoldable pub field_bound_lem : Store → Tag → Ptr → ℕ
-field_bound_lem s plain p = 0
-field_bound_lem s term p = bound s p
-field_bound_lem s body p = pred (bound s p)
+unfoldable pub field_bound : Store → Tag → Ptr → ℕ
+field_bound s plain p = 0
+field_bound s term p = bound s p
+field_bound s body p = pred (bound s p)
 
 unfoldable pub field_height : Store → Tag → Ptr → ℕ
 field_height s plain p = 0
@@ -72,7 +72,7 @@ unfoldable pub cell : Store → Row → Cell
 cell s (var i) = record { row = var i; bound = suc i; height = 1 }
 cell s (node κ x y z) = record {
   row = node κ x y z;
-  bound = max (max (field_bound_lem s (fields κ).first x) (field_bound_lem s (fields κ).second y)) (field_bound_lem s (fields κ).third z);
+  bound = max (max (field_bound s (fields κ).first x) (field_bound s (fields κ).second y)) (field_bound s (fields κ).third z);
   height = suc (max (max (field_height s (fields κ).first x) (field_height s (fields κ).second y)) (field_height s (fields κ).third z));
 }
 

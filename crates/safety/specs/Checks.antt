@@ -5,7 +5,7 @@ use Rattle.std.proofs.Common.{arith, sym, subst}
 use Rattle.std.proofs.Math.Option.{Option, none, some}
 use Rattle.rules.specs.Maxima.{most_index, most_level, most_levels, most_number, most_bound, most_height}
 use Rattle.rules.specs.Kinds.{Kind, sort, const, app, lam, pi, let', proj, num, Tag, plain, term, body, fields}
-use Rattle.rules.specs.Rows.{Ptr, blank, Row, var, node, Store, cell_at, row_at, bound, cell, field_bound_lem, field_height}
+use Rattle.rules.specs.Rows.{Ptr, blank, Row, var, node, Store, cell_at, row_at, bound, cell, field_bound, field_height}
 use Rattle.rules.specs.RowCheck.{InRange, sort_in, const_in, app_in, lam_in, pi_in, let_in, proj_in, num_in, ChildOk, FieldOk, plain_ok, term_ok}
 use Rattle.rules.specs.RowCheck.{body_ok, RowOk, var_ok, node_ok, Passes, InScope}
 use Rattle.rules.specs.Declarations.{Rule, Form, constructor, recursor, structure, Decl, Entry, Env, nth, decl_at}
@@ -98,7 +98,7 @@ pub exact_cell : (s : Store) (n : ℕ) →
 exact_cell s n b h = λ i. record { row = sym (cell_row s (row_at s n)) i; bound = b i; height = h i }
 
 unfoldable pub passes_at : (D : ℕ) (s : Store) (n : ℕ) → Option (Passes D s n)
-unfolding row_ok_at same at_most cell cell_at field_bound_lem field_height
+unfolding row_ok_at same at_most cell cell_at field_bound field_height
 passes_at D s n =
     given (row_ok_at D s n (row_at s n)) λ o.
     given (same (cell_at s n).bound (cell s (row_at s n)).bound) λ b.

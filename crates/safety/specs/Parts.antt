@@ -5,7 +5,7 @@ use Rattle.std.proofs.Common.{arith, ap, subst}
 use Rattle.std.proofs.Math.Option.{Option, none, some}
 use Rattle.rules.specs.Maxima.{most_number}
 use Rattle.rules.specs.Kinds.{const, app, num, table, fields}
-use Rattle.rules.specs.Rows.{Ptr, ptr, blank, Row, node, leaf, Cell, Store, cell, bound_on, bound, field_bound_lem, grow, put}
+use Rattle.rules.specs.Rows.{Ptr, ptr, blank, Row, node, leaf, Cell, Store, cell, bound_on, bound, field_bound, grow, put}
 use Rattle.rules.specs.RowCheck.{sort_in, const_in, app_in, lam_in, pi_in, let_in, proj_in, num_in, AllPass, InScope}
 use Rattle.rules.specs.Declarations.{zero', succ', true', false', quot_mk, role_code, Rule, Recursor, Form, plain, constructor, recursor, structure}
 use Rattle.rules.specs.Declarations.{Decl, Env, nth, decl_at, holder}
@@ -138,7 +138,7 @@ number_row s {n} h r = a_row (num_fields s n) (node_worded (num_in h)) r
 
 -- a number's row, written last, is closed
 number_at_end : (s : Store) (n d : ℕ) → InScope (put s (leaf (num n))).store d (put s (leaf (num n))).at
-unfolding cell field_bound_lem fields table
+unfolding cell field_bound fields table
 number_at_end s n d =
     let g = put_good s (leaf (num n)) in
     record { there = g.lower; still = g.still; within = omega (arith, ap (λ (c : Cell). bound_on c.bound 0) (end_cell s (cell s (leaf (num n))))) }

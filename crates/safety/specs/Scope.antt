@@ -3,7 +3,7 @@
 use Rattle.std.specs.Prelude.{ℕ, zero, suc, ◌+◌, ◌-◌, ◌≤◌, ◌<◌, pred, max, ◌≡◌, refl, List, [], ◌∷◌, ◌++◌, length, take, drop}
 use Rattle.std.proofs.Common.{arith, ap, subst as along}
 use Rattle.rules.specs.Kinds.{app, lam, let', proj, table, fields}
-use Rattle.rules.specs.Rows.{Ptr, Row, node, Cell, Store, cell_at, row_at, bound_on, bound, up_on, up, field_bound_lem, cell, Got}
+use Rattle.rules.specs.Rows.{Ptr, Row, node, Cell, Store, cell_at, row_at, bound_on, bound, up_on, up, field_bound, cell, Got}
 use Rattle.rules.specs.RowCheck.{AllPass, InScope}
 use Rattle.rules.specs.Spines.{Spine, head, through}
 use Rattle.rules.specs.Firings.{Result, opened, itself, a_number, a_constant, Due}
@@ -89,20 +89,20 @@ shared zero m k d h l z = absurd (omega arith)
 shared (suc n) m k d h l z = omega arith
 
 lambda_bound : (s : Store) (x y z : Ptr) → (cell s (node lam x y z)).bound ≡ max (max (bound s x) (pred (bound s y))) 0
-unfolding cell field_bound_lem fields table
+unfolding cell field_bound fields table
 lambda_bound s x y z = refl
 
 let_bound : (s : Store) (x y z : Ptr) → (cell s (node let' x y z)).bound ≡ max (max (bound s x) (bound s y)) (pred (bound s z))
-unfolding cell field_bound_lem fields table
+unfolding cell field_bound fields table
 let_bound s x y z = refl
 
 module _ {D : ℕ} {s : Store} {d k : ℕ} {x y z : Ptr} where
   pub function_in : RowIn D s d k (node app x y z) → InScope s d (up s x k)
-  unfolding cell field_bound_lem fields table
+  unfolding cell field_bound fields table
   function_in r = up_in k (term_child (first_ok r.fields)) (λ h. shared (cell s (node app x y z)).bound (bound s x) k d r.within (omega arith) h)
 
   pub argument_in : RowIn D s d k (node app x y z) → InScope s d (up s y k)
-  unfolding cell field_bound_lem fields table
+  unfolding cell field_bound fields table
   argument_in r = up_in k (term_child (second_ok r.fields)) (λ h. shared (cell s (node app x y z)).bound (bound s y) k d r.within (omega arith) h)
 
   pub lambda_body_in : RowIn D s d k (node lam x y z) → BodyIn s d k y
@@ -113,7 +113,7 @@ module _ {D : ℕ} {s : Store} {d k : ℕ} {x y z : Ptr} where
   }
 
   pub let_value_in : RowIn D s d k (node let' x y z) → InScope s d (up s y k)
-  unfolding cell field_bound_lem fields table
+  unfolding cell field_bound fields table
   let_value_in r = up_in k (term_child (second_ok r.fields)) (λ h. shared (cell s (node let' x y z)).bound (bound s y) k d r.within (omega arith) h)
 
   pub let_body_in : RowIn D s d k (node let' x y z) → BodyIn s d k z
@@ -124,7 +124,7 @@ module _ {D : ℕ} {s : Store} {d k : ℕ} {x y z : Ptr} where
   }
 
   pub structure_in : {c i : ℕ} → RowIn D s d k (node (proj c i) x y z) → InScope s d (up s x k)
-  unfolding cell field_bound_lem fields table
+  unfolding cell field_bound fields table
   structure_in {c} {i} r =
       up_in k (term_child (first_ok r.fields)) (λ h. shared (cell s (node (proj c i) x y z)).bound (bound s x) k d r.within (omega arith) h)
 

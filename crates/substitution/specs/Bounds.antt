@@ -5,7 +5,7 @@ use Rattle.std.proofs.Common.{le_refl, arith, sym, ap, ap₂, ◌∙◌, subst a
 use Rattle.std.proofs.Math.Nat.{max-zero}
 use Rattle.std.proofs.Math.Decide.{dec_le}
 use Rattle.rules.specs.Kinds.{table, fields}
-use Rattle.rules.specs.Rows.{Ptr, Row, Cell, Store, cell_at, row_at, bound_on, bound, up_on, up, field_bound_lem, field_height, cell}
+use Rattle.rules.specs.Rows.{Ptr, Row, Cell, Store, cell_at, row_at, bound_on, bound, up_on, up, field_bound, field_height, cell}
 use Rattle.rules.specs.ReadOut.{Tree, var, sort, const, app, lam, pi, let', proj, num, shift, Reads, shifted, ReadsRow, reads_var, reads_sort}
 use Rattle.rules.specs.ReadOut.{reads_const, reads_app, reads_lam, reads_pi, reads_let, reads_proj, reads_num}
 use Rattle.substitution.specs.Places.{Place, below, here, past, place}
@@ -82,7 +82,7 @@ pointer_height : {s : Store} {p : Ptr} (u : Tree) →
 pointer_height {s} {p} u f o e = height_shift p.shift 0 u ∙ e ∙ ap (λ (c : Cell). c.height) (sym (f.each p.row o.lower).exact)
 
 mutual
-  unfolding cell field_bound_lem loose fields table
+  unfolding cell field_bound loose fields table
 
   pub bound_is_loose : {s : Store} {p : Ptr} {t : Tree} → Formed s → Good s p → Reads s p t → loose t ≡ bound s p
   bound_is_loose {s} {p} f o (shifted {u = u} r e) = ap loose (sym e) ∙ pointer_loose u f o (row_loose f (good_fields f o) r)

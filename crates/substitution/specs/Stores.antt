@@ -6,7 +6,7 @@ use Rattle.std.proofs.Common.{le_refl, arith, sym, ap, ◌∙◌, subst, append_
 use Rattle.std.proofs.Math.ListN.{get_or-append, get_or-eq_default}
 use Rattle.std.proofs.lemmas.List.{get_or_at}
 use Rattle.rules.specs.Kinds.{Kind, sort, Tag, term, body, fields}
-use Rattle.rules.specs.Rows.{Ptr, Row, var, node, leaf, Cell, Store, cell_at, row_at, bound_on, bound, up_on, up, field_bound_lem, field_height, cell, put}
+use Rattle.rules.specs.Rows.{Ptr, Row, var, node, leaf, Cell, Store, cell_at, row_at, bound_on, bound, up_on, up, field_bound, field_height, cell, put}
 use Rattle.rules.specs.RowCheck.{ChildOk, FieldOk, plain_ok, term_ok, body_ok, InScope}
 use Rattle.rules.specs.Firings.{Written}
 use Rattle.substitution.specs.Places.{Place, below, here, past, place}
@@ -121,8 +121,8 @@ pub fields_at : {s : Store} {p : Ptr} {w : Row} → Formed s → Good s p → ro
 fields_at {s} f o e = subst (FieldsOk s (length s)) e (good_fields f o)
 
 -- what a row's children give it is the same in a grown store
-ext_field_bound : {s s' : Store} {n : ℕ} {p : Ptr} {τ : Tag} → Ext s s' → n ≤ length s → FieldOk s n p τ → field_bound_lem s' τ p ≡ field_bound_lem s τ p
-unfolding field_bound_lem
+ext_field_bound : {s s' : Store} {n : ℕ} {p : Ptr} {τ : Tag} → Ext s s' → n ≤ length s → FieldOk s n p τ → field_bound s' τ p ≡ field_bound s τ p
+unfolding field_bound
 ext_field_bound e h (plain_ok o) = refl
 ext_field_bound {p = p} e h (term_ok o) = ext_bound e p (omega (arith, o.lower))
 ext_field_bound {p = p} e h (body_ok o) = ap pred (ext_bound e p (omega (arith, o.lower)))

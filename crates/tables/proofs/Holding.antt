@@ -18,7 +18,7 @@ use Rattle.rules.specs.Arithmetic.{add, sub, mul, div, mod', beq, ble}
 use Rattle.rules.specs.Accepted.{part}
 use Rattle.tables.specs.Records.{records_from}
 use Rattle.tables.specs.Env.{role_by, decl_of}
-use Rattle.tables.specs.Read.{nobody, held_by_lem, HoldersOf}
+use Rattle.tables.specs.Read.{nobody, held_by, HoldersOf}
 use Rattle.tables.specs.ReadLaws.{role_code_lem, no_code}
 
 pub code_most : (ρ : Role) → role_code ρ ≤ 15
@@ -39,12 +39,12 @@ code_most (operation mod') = omega arith
 code_most (operation beq) = omega arith
 code_most (operation ble) = omega arith
 
-held_nobody : held_by_lem nobody ≡ none
-unfolding held_by_lem
+held_nobody : held_by nobody ≡ none
+unfolding held_by
 held_nobody = refl
 
-held_by_lem : (d : ℕ) → d < nobody → held_by_lem d ≡ some d
-unfolding held_by_lem
+held_by_lem : (d : ℕ) → d < nobody → held_by d ≡ some d
+unfolding held_by
 held_by_lem d h = let ne : d ≡ nobody → ⊥ = λ e. omega arith in rw (ne_eqb d nobody ne)
 
 -- word j of record e, where it stands
@@ -62,7 +62,7 @@ module _ (ds : List ℕ) where
   pub record HoldersFrom (d : ℕ) (table : List ℕ) : Type 0 where
     pub many : length table ≡ 16
     pub inside : d ≤ count
-    pub holds : (rs : List ℕ) (ρ : Role) → 1 ≤ role_code ρ → held_by_lem (get_or table (role_code ρ) 0) ≡ held_from rs d ρ
+    pub holds : (rs : List ℕ) (ρ : Role) → 1 ≤ role_code ρ → held_by (get_or table (role_code ρ) 0) ≡ held_from rs d ρ
 
   pub holders_none : HoldersFrom count (replicate 16 nobody)
   unfolding holder_from records_from
@@ -71,7 +71,7 @@ module _ (ds : List ℕ) where
     inside = omega arith;
     holds = λ rs ρ h.
         let none_left : count - count ≡ 0 = omega arith in
-        ap held_by_lem (get_or-replicate 16 (role_code ρ) nobody 0 (omega (arith, code_most ρ))) ∙ held_nobody ∙ rw none_left;
+        ap held_by (get_or-replicate 16 (role_code ρ) nobody 0 (omega (arith, code_most ρ))) ∙ held_nobody ∙ rw none_left;
   }
 
   pub holders_all : (d : ℕ) (table : List ℕ) → d ≡ 0 → HoldersFrom d table → HoldersOf ds table
@@ -110,15 +110,15 @@ module _ (ds : List ℕ) where
       code_is : role_code (role_by w) ≡ w
       code_is = role_code_lem w (omega arith)
 
-      held_here : (rs : List ℕ) (ρ : Role) → Dec (w ≡ role_code ρ) → 1 ≤ role_code ρ → held_by_lem (get_or (set table w d) (role_code ρ) 0) ≡ held_from rs d ρ
+      held_here : (rs : List ℕ) (ρ : Role) → Dec (w ≡ role_code ρ) → 1 ≤ role_code ρ → held_by (get_or (set table w d) (role_code ρ) 0) ≡ held_from rs d ρ
       held_here rs ρ (yes e) one =
-          ap (λ (k : ℕ). held_by_lem (get_or (set table w d) k 0)) (sym e)
-          ∙ ap held_by_lem (get_or-set_same table w d 0 (omega (arith, h.many)))
+          ap (λ (k : ℕ). held_by (get_or (set table w d) k 0)) (sym e)
+          ∙ ap held_by (get_or-set_same table w d 0 (omega (arith, h.many)))
           ∙ held_by_lem d (omega arith)
           ∙ ap (λ (b : Bool). holder_on b (some d) (held_from rs (suc d) ρ)) (sym (eq-eqb _ _ (code_is ∙ e)))
           ∙ sym (in_front rs ρ)
       held_here rs ρ (no ne) one =
-          ap held_by_lem (get_or-set_other table w (role_code ρ) d 0 (λ e. ne (sym e)))
+          ap held_by (get_or-set_other table w (role_code ρ) d 0 (λ e. ne (sym e)))
           ∙ h.holds rs ρ one
           ∙ passed rs ρ (λ e. ne (sym code_is ∙ e))
 

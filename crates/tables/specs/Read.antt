@@ -54,12 +54,12 @@ found_value value_variants.NoValue = none
 abbrev pub nobody : ℕ
 nobody = 4294967295
 
-unfoldable pub held_by_lem : ℕ → Option ℕ
-held_by_lem d = ite (eqb d nobody) none (some d)
+unfoldable pub held_by : ℕ → Option ℕ
+held_by d = ite (eqb d nobody) none (some d)
 
 -- each of the fifteen roles has its holder at its code, whatever the rules and the context are
 pub record HoldersOf (ds table : List ℕ) : Type 0 where
-  pub holds : (rs cs : List ℕ) (depth : ℕ) (ρ : Role) → 1 ≤ role_code ρ → held_by_lem (get_or table (role_code ρ) 0) ≡ holder (env_of ds rs cs depth) ρ
+  pub holds : (rs cs : List ℕ) (depth : ℕ) (ρ : Role) → 1 ≤ role_code ρ → held_by (get_or table (role_code ρ) 0) ≡ holder (env_of ds rs cs depth) ρ
 
 -- the value of variable i, whatever the declarations and the rules are
 pub record ValueOf (cs : List ℕ) (depth i : ℕ) (v : Option Ptr) : Type 0 where

@@ -6,7 +6,7 @@ use native.Mathlib.Omega.{arith}
 use Rattle.std.proofs.Math.Path.{ap}
 use Rattle.std.proofs.Math.Option.{Option, none, some}
 use Rattle.rules.specs.Kinds.{app, table, fields}
-use Rattle.rules.specs.Rows.{Ptr, Row, var, node, Cell, Store, cell_at, row_at, bound_on, bound, up_on, up, field_bound_lem, field_height, cell}
+use Rattle.rules.specs.Rows.{Ptr, Row, var, node, Cell, Store, cell_at, row_at, bound_on, bound, up_on, up, field_bound, field_height, cell}
 use Rattle.rules.specs.RowCheck.{InScope}
 use Rattle.rules.specs.Spines.{Spine, head, through, NoApp}
 use Rattle.substitution.specs.Stores.{first_ok, second_ok, term_child, Formed, Good, scope_good, fields_at, Ext, ext_row, ext_up, ext_good, up_child}
@@ -33,7 +33,7 @@ module _ {s : Store} {p f a z : Ptr} (formed : Formed s) (q : row_at s p.row ≡
 
   -- what they add to the row's bound
   bounds : Good s p → (bound s f ≤ (cell_at s p.row).bound) × (bound s a ≤ (cell_at s p.row).bound)
-  unfolding cell fields table field_bound_lem
+  unfolding cell fields table field_bound
   bounds o = let h = ap (λ (c : Cell). c.bound) (row_exact o) in (omega arith, omega arith)
 
 -- a child that adds at most the row's bound, taking the pointer's shift on, is in scope where the pointer is

@@ -7,7 +7,7 @@ use Rattle.rules.specs.Rows.{Ptr, Got}
 use Rattle.rules.specs.Firings.{Tally, tally, Result}
 use Rattle.rules.specs.Refusals.{Limits}
 use Rattle.course.specs.Views.{Cmp, up_to, over, cmp, NumberView, in_range, too_big, number_view}
-use Rattle.course.specs.Charged.{Out, wrote, refused, due_in_lem}
+use Rattle.course.specs.Charged.{Out, wrote, refused, due_in}
 use Rattle.course.specs.Charged as C
 use Rattle.course.specs.Eval.{Res, ok, no, lost, Ans, missed, firing, refuse, gone, due_of, charge, paid_on, due_on, fire_on, fire}
 use Rattle.promises.specs.Charge.{settle_on, settle, due_in_lem}
@@ -40,7 +40,7 @@ module _ (lim : Limits) where
   abbrev pub fire_in_on : (m : Tally) (r : Result) → List Ptr → Cmp lim.steps m.steps → NumberView r → Step
   fire_in_on m r xs (up_to h) q = stopped 4
   fire_in_on m r xs (over h) (too_big l) = stopped 7
-  fire_in_on m r xs (over h) (in_range l) = out_step m.steps (due_in_lem lim.rows m.store r xs)
+  fire_in_on m r xs (over h) (in_range l) = out_step m.steps (due_in lim.rows m.store r xs)
 
   -- 4, 7, then each row in turn
   unfoldable pub fire_in : Tally → Result → List Ptr → Step
