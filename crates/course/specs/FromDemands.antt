@@ -15,7 +15,7 @@ use Rattle.rules.specs.HeadRules.{Head, Constant, Side, ends}
 use Rattle.rules.specs.Refusals.{Demand, row, RowDue, Meets, in_premise, in_firing, SideMeets, its_level, Premise, structure, quot_major, rec_major}
 use Rattle.rules.specs.Refusals.{number_row, first_number, second_number}
 use Rattle.rules.specs.Refusals as F
-use Rattle.course.specs.Tries.{Try, no_rule, fires, writes, reduces, with_it, ◌or-else◌, lambda, variable, projection, quot, recursion}
+use Rattle.course.specs.Tries.{Try, no_rule, fires, writes, reduces, with_it, ◌or_else◌, lambda, variable, projection, quot, recursion}
 use Rattle.course.specs.Tries.{arithmetic, delta, constant, at_row, rules, missed, RunMeets, trying, paying, TryMeets, writing}
 use Rattle.course.specs.Tries.{after_writing, too_deep, after_side}
 use Rattle.course.specs.Tries as Y
@@ -61,11 +61,11 @@ module _ (e : Env) where
     -- a demand of the first rule, or the first is missed and it is one of the next
     on_else : {d : ℕ} {m m₂ : Tally} {a : Demand} (y z : Try) → (Asked d m y a m₂ → P a m₂) →
         ((m₁ : Tally) → Understood e d m y m₁ missed → Asked d m₁ z a m₂ → P a m₂) → Asked d m (y or_else z) a m₂ → P a m₂
-    unfolding ◌or-else◌
+    unfolding ◌or_else◌
     on_else no_rule z f g u = g _ u_misses u
     on_else (fires r xs) z f g u = absurd (never_fires u)
     on_else (writes ws y) z f g (a_row w q) = f (a_row w q)
-    on_else (writes ws y) z f g (after_rows w u) = on_else y z (λ v. f (after_rows w v)) (λ m₁ v k. g m₁ (u_wrote w v) k) u
+    on_else {m = m} (writes ws y) z f g (after_rows w u) = on_else {m = tally m.steps (grow m.store ws)} y z (λ v. f (after_rows w v)) (λ m₁ v k. g m₁ (u_wrote w v) k) u
     on_else (reduces p y) z f g (in_side s) = f (in_side s)
     on_else (reduces p y) z f g (past_side {m₁ = m₁} {w = w} {ys = ys} s u) =
         on_else (y m₁.store w ys) z (λ v. f (past_side s v)) (λ m₂ v k. g m₂ (u_side s v) k) u

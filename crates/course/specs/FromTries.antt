@@ -19,7 +19,7 @@ use Rattle.rules.specs.HeadRules.{by_recursor, by_arithmetic, by_delta, Stuck, n
 use Rattle.rules.specs.HeadRules.{no_quot, not_made, Rec, by_a_rule, NoRec, no_recursor, no_constructor, Arith, computed, NoArith, no_operands, no_first}
 use Rattle.rules.specs.HeadRules.{no_second}
 use Rattle.rules.specs.HeadRules as H
-use Rattle.course.specs.Tries.{Try, no_rule, fires, writes, reduces, with_it, ◌or-else◌, lambda, variable, projection, quot, recursion}
+use Rattle.course.specs.Tries.{Try, no_rule, fires, writes, reduces, with_it, ◌or_else◌, lambda, variable, projection, quot, recursion}
 use Rattle.course.specs.Tries.{arithmetic, delta, constant, at_row, rules, End, missed, firing, Runs, Comes, misses, fires_now, wrote, side}
 use Rattle.course.specs.Tries as Y
 
@@ -67,10 +67,10 @@ module _ (e : Env) where
     on_else : {d : ℕ} {m m' : Tally} {o : End} (y z : Try) →
         ((r : Result) (xs : List Ptr) → Understood d m y m' (firing r xs) → P m' (firing r xs)) →
         ((m₁ : Tally) → Understood d m y m₁ missed → Understood d m₁ z m' o → P m' o) → Understood d m (y or_else z) m' o → P m' o
-    unfolding ◌or-else◌
+    unfolding ◌or_else◌
     on_else no_rule z f g u = g _ u_misses u
     on_else (fires r xs) z f g u_fires = f r xs u_fires
-    on_else (writes ws y) z f g (u_wrote w u) = on_else y z (λ r xs v. f r xs (u_wrote w v)) (λ m₁ v k. g m₁ (u_wrote w v) k) u
+    on_else {m = m} (writes ws y) z f g (u_wrote w u) = on_else {m = tally m.steps (grow m.store ws)} y z (λ r xs v. f r xs (u_wrote w v)) (λ m₁ v k. g m₁ (u_wrote w v) k) u
     on_else (reduces p y) z f g (u_side {m₁ = m₁} {w = w} {ys = ys} s u) =
         on_else (y m₁.store w ys) z (λ r xs v. f r xs (u_side s v)) (λ m₂ v k. g m₂ (u_side s v) k) u
 

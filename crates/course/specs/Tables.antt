@@ -11,7 +11,7 @@ use Rattle.rules.specs.HeadTests.{outcome, unfolds}
 use Rattle.rules.specs.Call.{Answer, term, refused}
 use Rattle.rules.specs.ReadOut.{Tree}
 use Rattle.course.specs.Views.{cmp, app_view, fit_view, number_view}
-use Rattle.course.specs.Tries.{◌or-else◌, lambda, variable, projection, quot, recursion, arithmetic, delta, constant, at_row, rules}
+use Rattle.course.specs.Tries.{◌or_else◌, lambda, variable, projection, quot, recursion, arithmetic, delta, constant, at_row, rules}
 use Rattle.course.specs.Eval.{on_row, replace_by, spine_by, give, due_of, Res, ok, no, lost, emit, fire, try, at_the_head, loop, side_at, eval}
 use Rattle.course.specs.Reading.{read_out}
 
@@ -61,7 +61,7 @@ pub record Seen : Type 0 where
 
 -- the evaluator's answer over one library and one list of declarations
 unfoldable pub seen : List Decl → Store → Case → Seen
-unfolding answer_of read_of eval side_at loop at_the_head try fire emit due_of give spine_by replace_by on_row cmp app_view fit_view number_view rules at_row constant ◌or-else◌ delta arithmetic recursion quot projection variable lambda unfolds outcome operands by_rule rule_for as_constructor number_made rec_parts quot_made quot_parts field_at as_number as_constant compute joined value_of holder holder_from decl_at nth fields cell cell_at field_bound field_height grow
+unfolding answer_of read_of eval side_at loop at_the_head try fire emit due_of give spine_by replace_by on_row cmp app_view fit_view number_view rules at_row constant ◌or_else◌ delta arithmetic recursion quot projection variable lambda unfolds outcome operands by_rule rule_for as_constructor number_made rec_parts quot_made quot_parts field_at as_number as_constant compute joined value_of holder holder_from decl_at nth fields cell cell_at field_bound field_height grow
 seen ds s c =
     let r : Res = eval (declared ds c.context) (record { steps = c.steps; rows = length s + c.free }) c.nesting s c.asked in
     record { answer = answer_of s r; reads = read_of r }

@@ -17,7 +17,7 @@ use Rattle.rules.specs.HeadRules as H
 use Rattle.rules.specs.Refusals.{Demand, row, Meets, in_premise, in_firing, SideMeets, its_level, Premise, structure, quot_major}
 use Rattle.rules.specs.Refusals.{rec_major, number_row, first_number, second_number}
 use Rattle.rules.specs.Refusals as F
-use Rattle.course.specs.Tries.{Try, no_rule, fires, writes, reduces, ◌or-else◌, lambda, variable, projection, quot, recursion}
+use Rattle.course.specs.Tries.{Try, no_rule, fires, writes, reduces, ◌or_else◌, lambda, variable, projection, quot, recursion}
 use Rattle.course.specs.Tries.{arithmetic, delta, constant, at_row, rules, End, missed, firing, Runs, Comes, misses, fires_now, wrote, side}
 use Rattle.course.specs.Tries.{RunMeets, trying, paying, TryMeets, writing, after_writing, too_deep, after_side}
 use Rattle.course.specs.Tries as Y
@@ -61,7 +61,7 @@ module _ (e : Env) where
   -- the first fires; or it is missed, and the next goes on from the tally that it left
   pub first_fires : {d : ℕ} {m m₁ : Tally} {y : Try} {o : End} → Comes e d m y m₁ o → (r : Result) (xs : List Ptr) → o ≡ firing r xs → (z : Try) →
       Comes e d m (y or_else z) m₁ (firing r xs)
-  unfolding ◌or-else◌
+  unfolding ◌or_else◌
   first_fires misses r xs q z = absurd (never q)
     where
       never : missed ≡ firing r xs → ⊥
@@ -72,7 +72,7 @@ module _ (e : Env) where
 
   pub first_missed : {d : ℕ} {m m₁ : Tally} {y : Try} {o : End} → Comes e d m y m₁ o → o ≡ missed → (z : Try) {m' : Tally} {o' : End} →
       Comes e d m₁ z m' o' → Comes e d m (y or_else z) m' o'
-  unfolding ◌or-else◌
+  unfolding ◌or_else◌
   first_missed misses q z k = k
   first_missed (fires_now {r = r} {xs = xs}) q z k = absurd (never q)
     where
@@ -176,7 +176,7 @@ module _ (e : Env) where
       after_side r h.spine (subst (λ (w : Row). TryMeets e (suc d) m₁ (y m₁.store w ys) a m₂) (sym h.row) c)
 
   pub first_meets : {d : ℕ} {m m₁ : Tally} {y : Try} {a : Demand} → TryMeets e d m y a m₁ → (z : Try) → TryMeets e d m (y or_else z) a m₁
-  unfolding ◌or-else◌
+  unfolding ◌or_else◌
   first_meets (writing w q) z = writing w q
   first_meets (after_writing w c) z = after_writing w (first_meets c z)
   first_meets too_deep z = too_deep
@@ -185,7 +185,7 @@ module _ (e : Env) where
 
   pub next_meets : {d : ℕ} {m m₁ : Tally} {y : Try} {o : End} → Comes e d m y m₁ o → o ≡ missed → (z : Try) {m₂ : Tally} {a : Demand} →
       TryMeets e d m₁ z a m₂ → TryMeets e d m (y or_else z) a m₂
-  unfolding ◌or-else◌
+  unfolding ◌or_else◌
   next_meets misses q z k = k
   next_meets (fires_now {r = r} {xs = xs}) q z k = absurd (never q)
     where

@@ -25,8 +25,8 @@ with_it none next = no_rule
 with_it (some a) next = next a
 
 -- if no rule fires, the next is tried, from whatever rows and steps the first try left
-infixr 20 ◌or-else◌
-unfoldable pub ◌or-else◌ : Try → Try → Try
+infixr 20 ◌or_else◌
+unfoldable pub ◌or_else◌ : Try → Try → Try
 no_rule or_else z = z
 fires r xs or_else z = fires r xs
 writes ws y or_else z = writes ws (y or_else z)

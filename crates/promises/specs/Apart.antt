@@ -10,7 +10,7 @@ use Rattle.rules.specs.Declarations.{Env}
 use Rattle.rules.specs.Spines.{Spine}
 use Rattle.rules.specs.Firings.{Tally, tally, Result, a_number, NumberFits, number_fits, AllFit, and_then, Written, Pays}
 use Rattle.rules.specs.Refusals.{Demand, row, RowDue, Asks, its_step, its_number, its_row, Limits, Within, Fails, no_step, no_free_row, too_large, no_size}
-use Rattle.course.specs.Tries.{Try, rules, End, Runs, final, then, Comes, wrote, side, RunMeets, trying, paying, later, TryMeets, writing}
+use Rattle.course.specs.Tries.{Try, rules, End, Runs, final, then, Comes, misses, fires_now, wrote, side, RunMeets, trying, paying, later, TryMeets, writing}
 use Rattle.course.specs.Tries.{after_writing, too_deep, within, after_side}
 use Rattle.promises.specs.Stores.{within_earlier, later_trans, later_pays, later_runs, later_comes}
 use Rattle.promises.specs.Same.{spine_same, due_same, not_both, same_firing, pays_on, side_same, through_one, runs_same, comes_same}
@@ -67,6 +67,8 @@ module _ (e : Env) where
 
       pub comes_apart : {d D : ℕ} {m m' m₁ : Tally} {y : Try} {o : End} {a : Demand} {k : ℕ} → Comes e d m y m' o → Within lim m' → d ≤ D →
           TryMeets e D m y a m₁ → Fails lim m₁ a k → ⊥
+      comes_apart misses v l x f = elim x [ ]
+      comes_apart fires_now v l x f = elim x [ ]
       comes_apart (wrote w c) v l (writing x q) f = row_apart w (within_earlier (later_comes e c) v).rows x (rw (← q) at f)
       comes_apart (wrote w c) v l (after_writing w' y) f = comes_apart c v l y f
       comes_apart (side r s c) v l too_deep f = omega arith

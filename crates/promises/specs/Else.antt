@@ -8,7 +8,7 @@ use Rattle.rules.specs.Rows.{Ptr, row_at, grow}
 use Rattle.rules.specs.Declarations.{Env}
 use Rattle.rules.specs.Firings.{Tally, tally, Result}
 use Rattle.rules.specs.Refusals.{Demand, Limits}
-use Rattle.course.specs.Tries.{Try, no_rule, fires, writes, reduces, ◌or-else◌, End, missed, firing, Comes, misses, fires_now, wrote, side, TryMeets}
+use Rattle.course.specs.Tries.{Try, no_rule, fires, writes, reduces, ◌or_else◌, End, missed, firing, Comes, misses, fires_now, wrote, side, TryMeets}
 use Rattle.course.specs.Tries.{writing, after_writing, too_deep, within, after_side}
 use Rattle.course.specs.Eval.{Spined, spine, Res, ok, no, lost, Ans, refuse, gone, Side, charge, wrote_on, spine_then, side_on, try}
 use Rattle.course.specs.Eval as E
@@ -39,7 +39,7 @@ module _ (lim : Limits) (next : Tally → Ans) where
 module _ (lim : Limits) (sd : Side) where
   -- what code that tries one rule after the other follows
   pub try_else : (y z : Try) (m : Tally) → try lim sd (y or_else z) m ≡ and_then (try lim sd y m) (λ m₁. try lim sd z m₁)
-  unfolding try ◌or-else◌
+  unfolding try ◌or_else◌
   try_else no_rule z m = refl
   try_else (fires r xs) z m = refl
   try_else (writes ws y) z m =
@@ -58,15 +58,15 @@ module _ (e : Env) where
     of_second : {m₁ : Tally} {o : End} → Comes e d m y m₁ missed → Comes e d m₁ z m' o → ElseComes d m y z m' o
 
   pub else_comes : {d : ℕ} {m m' : Tally} {o : End} (y z : Try) → Comes e d m (y or_else z) m' o → ElseComes d m y z m' o
-  unfolding ◌or-else◌
+  unfolding ◌or_else◌
   else_comes no_rule z c = of_second misses c
   else_comes (fires r xs) z fires_now = of_first fires_now
-  else_comes {d} {m} (writes ws y) z (wrote w c) = on (else_comes y z c)
+  else_comes {d} {m} (writes ws y) z (wrote w c) = on (else_comes {m = tally m.steps (grow m.store ws)} y z c)
     where
       on : {m' : Tally} {o : End} → ElseComes d (tally m.steps (grow m.store ws)) y z m' o → ElseComes d m (writes ws y) z m' o
       on (of_first c) = of_first (wrote w c)
       on (of_second c k) = of_second (wrote w c) k
-  else_comes (reduces p y) z (side {d = d} {m = m} {m₁ = m₁} {h = h} {ys = ys} r s c) = on (else_comes (y m₁.store (row_at m₁.store h.row) ys) z c)
+  else_comes (reduces p y) z (side {d = d} {m = m} {m₁ = m₁} {h = h} {ys = ys} r s c) = on (else_comes {d = suc d} {m = m₁} (y m₁.store (row_at m₁.store h.row) ys) z c)
     where
       on : {m' : Tally} {o : End} → ElseComes (suc d) m₁ (y m₁.store (row_at m₁.store h.row) ys) z m' o → ElseComes (suc d) m (reduces p y) z m' o
       on (of_first c) = of_first (side r s c)
@@ -78,17 +78,18 @@ module _ (e : Env) where
     in_second : {m₂ : Tally} → Comes e d m y m₂ missed → TryMeets e d m₂ z a m₁ → ElseMeets d m y z a m₁
 
   pub else_meets : {d : ℕ} {m m₁ : Tally} {a : Demand} (y z : Try) → TryMeets e d m (y or_else z) a m₁ → ElseMeets d m y z a m₁
-  unfolding ◌or-else◌
+  unfolding ◌or_else◌
   else_meets no_rule z x = in_second misses x
+  else_meets (fires r xs) z x = elim x [ ]
   else_meets (writes ws y) z (writing x q) = in_first (writing x q)
-  else_meets {d} {m} (writes ws y) z (after_writing w x) = on (else_meets y z x)
+  else_meets {d} {m} (writes ws y) z (after_writing w x) = on (else_meets {m = tally m.steps (grow m.store ws)} y z x)
     where
       on : {a : Demand} {m₁ : Tally} → ElseMeets d (tally m.steps (grow m.store ws)) y z a m₁ → ElseMeets d m (writes ws y) z a m₁
       on (in_first x) = in_first (after_writing w x)
       on (in_second c k) = in_second (wrote w c) k
   else_meets (reduces p y) z too_deep = in_first too_deep
   else_meets (reduces p y) z (within x) = in_first (within x)
-  else_meets (reduces p y) z (after_side {d = d} {m = m} {m₁ = n} {h = h} {ys = ys} r s x) = on (else_meets (y n.store (row_at n.store h.row) ys) z x)
+  else_meets (reduces p y) z (after_side {d = d} {m = m} {m₁ = n} {h = h} {ys = ys} r s x) = on (else_meets {d = suc d} {m = n} (y n.store (row_at n.store h.row) ys) z x)
     where
       on : {a : Demand} {m₁ : Tally} → ElseMeets (suc d) n (y n.store (row_at n.store h.row) ys) z a m₁ → ElseMeets (suc d) m (reduces p y) z a m₁
       on (in_first x) = in_first (after_side r s x)

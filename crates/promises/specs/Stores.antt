@@ -1,10 +1,10 @@
 -- Stores only grow, and so do tallies: whatever is written stands after what stood. It holds for all stores.
-use Rattle.std.specs.Prelude.{ℕ, ◌≤◌, ◌≡◌, List, [], ◌∷◌, length, drop}
+use Rattle.std.specs.Prelude.{ℕ, ◌≤◌, ◌≡◌, List, [], ◌∷◌, ◌++◌, length, drop}
 use Rattle.std.proofs.Common.{arith, le_refl, le_trans, sym, ap, ◌∙◌, subst}
 use Rattle.std.proofs.Math.Option.{Option}
 use Rattle.std.proofs.Math.Seq.{drop-append_seam}
-use Rattle.rules.specs.Kinds.{Tag}
-use Rattle.rules.specs.Rows.{Ptr, Row, Cell, Store, cell, grow, Got}
+use Rattle.rules.specs.Kinds.{Tag, app}
+use Rattle.rules.specs.Rows.{Ptr, Row, Cell, Store, cell, node, blank, put, grow, Got}
 use Rattle.rules.specs.Declarations.{Env}
 use Rattle.rules.specs.Replacement.{Replaces, same, moved, inside, OnRow, stays, value, moves, children, OnField, word, child, under}
 use Rattle.rules.specs.Spines.{joined}
@@ -23,12 +23,12 @@ ext_tail {s} x = ap (drop (length s)) (sym x.after) ∙ drop-append_seam s x.new
 pub ext_grow : (s : Store) (ws : List Row) → Ext s (grow s ws)
 unfolding grow
 ext_grow s [] = ext_same s
-ext_grow s (w ∷ ws) = ext_then (ext_put s (cell s w)) (ext_grow _ ws)
+ext_grow s (w ∷ ws) = ext_then (ext_put s (cell s w)) (ext_grow (s ++ cell s w ∷ []) ws)
 
 pub ext_joined : (s : Store) (p : Ptr) (xs : List Ptr) → Ext s (joined s p xs).store
 unfolding joined
 ext_joined s p [] = ext_same s
-ext_joined s p (a ∷ xs) = ext_then (ext_put s _) (ext_joined _ _ xs)
+ext_joined s p (a ∷ xs) = ext_then (ext_put s _) (ext_joined (put s (node app p a blank)).store _ xs)
 
 by_got : {s : Store} {g g' : Got} → g ≡ g' → Ext s g.store → Ext s g'.store
 by_got {s} e x = subst (λ (g : Got). Ext s g.store) e x

@@ -4,7 +4,7 @@ use Rattle.std.specs.Prelude.{ℕ, ◌≡◌, refl, List, [], ◌∷◌, length}
 use Rattle.std.proofs.Common.{subst as along}
 use Rattle.rules.specs.Kinds.{table, fields}
 use Rattle.rules.specs.Kinds as K
-use Rattle.rules.specs.Rows.{Ptr, blank, node, Store, up}
+use Rattle.rules.specs.Rows.{Ptr, blank, node, put, Store, up}
 use Rattle.rules.specs.RowCheck.{plain_ok, term_ok}
 use Rattle.rules.specs.Spines.{Spine, head, through, joined}
 use Rattle.rules.specs.ReadOut.{Tree, app, shift, Reads, ReadsRow, reads_app}
@@ -102,7 +102,7 @@ pub joined-reads : {s : Store} {p : Ptr} {t : Tree} (xs : List Ptr) {us : List T
     Formed s → Good s p → Reads s p t → ReadAll s xs us → Replaced s (joined s p xs) (apply t us)
 unfolding joined apply
 joined-reads {s} [] f o r none_left = record { more = ext_same s; formed = f; good = o; reads = r }
-joined-reads (a ∷ xs) f o r (and_then y q c) =
+joined-reads {s = s} {p = p} (a ∷ xs) f o r (and_then y q c) =
     let d = put_reads f (app_fields o y) (reads_app r q) in
-    let j = joined-reads xs d.formed d.good d.reads (all_later f d.more c) in
+    let j = joined-reads {s = (put s (node K.app p a blank)).store} xs d.formed d.good d.reads (all_later f d.more c) in
     record { more = ext_then d.more j.more; formed = j.formed; good = j.good; reads = j.reads }

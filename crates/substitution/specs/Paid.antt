@@ -48,7 +48,7 @@ mutual
 joined_worded : {D : ℕ} {s : Store} (p : Ptr) (xs : List Ptr) → AllWorded D s → AllWorded D (joined s p xs).store
 unfolding joined
 joined_worded p [] a = a
-joined_worded {s = s} p (x ∷ xs) a = joined_worded (put s (node app p x blank)).at xs (put_worded a (node_worded app_in))
+joined_worded {s = s} p (x ∷ xs) a = joined_worded {s = (put s (node app p x blank)).store} (put s (node app p x blank)).at xs (put_worded a (node_worded app_in))
 
 -- REPLACEMENT
 
