@@ -31,12 +31,12 @@ module _ {A B : Type 0} {R : A → B → Type 0} where
   pub drop_like : {xs : List A} {ys : List B} (n : ℕ) → Each R xs ys → Each R (drop n xs) (drop n ys)
   drop_like zero q = q
   drop_like (suc n) ended = ended
-  drop_like (suc n) (next r q) = drop_like n q
+  drop_like (suc n) (next {xs = xs} r q) = drop_like {xs = xs} n q
 
   pub take_like : {xs : List A} {ys : List B} (n : ℕ) → Each R xs ys → Each R (take n xs) (take n ys)
   take_like zero q = ended
   take_like (suc n) ended = ended
-  take_like (suc n) (next r q) = next r (take_like n q)
+  take_like (suc n) (next {xs = xs} r q) = next r (take_like {xs = xs} n q)
 
   pub append_like : {xs xs' : List A} {ys ys' : List B} → Each R xs ys → Each R xs' ys' → Each R (xs ++ xs') (ys ++ ys')
   append_like ended q = q

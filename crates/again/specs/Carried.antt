@@ -155,7 +155,7 @@ module _ (ρ : ℕ → ℕ) where
       let d = put_carried m (node app p a blank) in
       let g : Got = put s̃ (node app (ren ρ p) (ren ρ a) blank) in
       let q : d.result ≡ g = sym d.holds ∙ ap (put s̃) (app_renamed p a blank) in
-      let j = joined_carried d.embeds (put s (node app p a blank)).at xs in
+      let j = joined_carried {s = (put s (node app p a blank)).store} d.embeds (put s (node app p a blank)).at xs in
       record {
         result = j.result;
         holds = (λ i. joined (sym q i).store ((ap (λ (x : Got). x.at) (sym q) ∙ sym d.at) i) (map (ren ρ) xs)) ∙ j.holds;

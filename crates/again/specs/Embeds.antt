@@ -128,7 +128,7 @@ module _ (ρ : ℕ → ℕ) where
   pub grow_embeds : {s s̃ : Store} → Embeds s s̃ → (ws : List Row) → Embeds (grow s ws) (grow s̃ (map ren_row ws))
   unfolding grow
   grow_embeds m [] = m
-  grow_embeds m (w ∷ ws) = grow_embeds (put_embeds m w) ws
+  grow_embeds {s = s} m (w ∷ ws) = grow_embeds {s = (put s w).store} (put_embeds m w) ws
 
   -- FROM STORE TO STORE: with one ρ before and after, the new rows on one side are those on the other, renamed
 

@@ -8,7 +8,7 @@ use Rattle.rules.specs.Declarations.{Decl, Env}
 use Rattle.rules.specs.Arithmetic.{Op, compute}
 use Rattle.rules.specs.Firings.{Result}
 use Rattle.rules.specs.HeadTests.{outcome}
-use Rattle.course.specs.Tries.{Try, no_rule, fires, writes, reduces, with_it, ◌or-else◌, lambda, variable, projection, quot, recursion, arithmetic}
+use Rattle.course.specs.Tries.{Try, no_rule, fires, writes, reduces, with_it, ◌or_else◌, lambda, variable, projection, quot, recursion, arithmetic}
 use Rattle.course.specs.Tries.{delta, constant, at_row, rules}
 use Rattle.again.specs.Alike.{Opt, nones, somes, Each, ended, next, Grown, Likeness, grown_same, grown_then, pointers_later, RowsLike}
 use Rattle.again.specs.Alike.{rows_grown, ResultLike, opened_like, itself_like, HeadLike, head_var, head_sort, head_const, head_app, head_lam}
@@ -43,7 +43,7 @@ module _ (L : Likeness) where
   -- rules in order: the next are twins from wherever the first left off
   or_else_twin : {s s̃ : Store} {y ỹ z z̃ : Try} → Twin s s̃ y ỹ → L.stores s s̃ →
       ((s₁ s̃₁ : Store) → Grown L.stores s s̃ s₁ s̃₁ → Twin s₁ s̃₁ z z̃) → Twin s s̃ (y or_else z) (ỹ or_else z̃)
-  unfolding ◌or-else◌
+  unfolding ◌or_else◌
   or_else_twin no_rules a k = k _ _ (grown_same L a)
   or_else_twin (both_fire r q) a k = both_fire r q
   or_else_twin (both_write ws t) a k =

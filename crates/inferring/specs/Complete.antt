@@ -111,13 +111,17 @@ module _ (lim : Limits) where
   due_refused {x = x} {k = k} d z v f =
       rows_fail lim d (subst (Within lim) (sym z) v).rows (subst (λ (m : Tally). Fails lim m (row x) k) (sym z) f)
 
+  -- the asks that go on from a tally and a pointer, evaluated
+  abbrev going_on : ℕ → Env → ℕ → (Store → Ptr → Ask) → Side
+  going_on d e r y m p = run lim e (λ e'. side_at e' lim d) (λ e' r' m' t'. type_at lim d e' r' m' t') r (y m.store p) m
+
   module _ {d : ℕ} {e : Env} {r : ℕ} where
     writes_run : {m m₁ : Tally} {w : Row} {q : Ptr} {y : Store → Ptr → Ask} {o : Res} → Puts m w m₁ q → Within lim m₁ → Typed e m.store →
         Safe e m.store (writes w y) → (Typed e m₁.store → Safe e m₁.store (y m₁.store q) → Gets d e r m₁ (y m₁.store q) o) →
         Gets d e r m (writes w y) o
     unfolding run
     writes_run {m} {m₁} {w} {q} {y} {o} u v typed (safe_writes f b g) rest =
-        record { same = charged_next _ (put m.store w) written stored pointed v.rows ∙ (rest (subst (λ (x : Tally). Typed e x.store) stored after) next).same }
+        record { same = charged_next (going_on d e r y) (put m.store w) written stored pointed v.rows ∙ (rest (subst (λ (x : Tally). Typed e x.store) stored after) next).same }
       where
         written : Written m.store (put m.store w).store
         written = subst (λ (g : Got). Written m.store g.store) (sym u.is_due) u.written
@@ -142,8 +146,8 @@ module _ (lim : Limits) where
     writes_refused : {m m₁ : Tally} {w : Row} {y : Store → Ptr → Ask} {a : InferDemand} {k : ℕ} → PutsMeets m w a m₁ → Within lim m₁ → InferFails lim m₁ a k →
         Gets d e r m (writes w y) (no k)
     unfolding run
-    writes_refused {m} {w = w} {y = y} {k = k} (F.PutsMeets.its_row {x = x} {now = now} q d z) v (as_reduction_fails f) =
-        record { same = ap (charged_on _ m (put m.store w)) (due_refused (subst (λ (g : Got). RowDue m.store g.store x now) (sym q) d) z v f) }
+    writes_refused {m} {w = w} {y = y} {k = k} (F.PutsMeets.its_row {x = x} {now = now} q c z) v (as_reduction_fails f) =
+        record { same = ap (charged_on (going_on d e r y) m (put m.store w)) (due_refused (subst (λ (g : Got). RowDue m.store g.store x now) (sym q) c) z v f) }
 
     opens_run : {m m₁ : Tally} {v : Option Ptr} {k c : ℕ} {b q : Ptr} {y : Store → Ptr → Ask} {o : Res} → Opens m v k c b m₁ q → Within lim m₁ →
         Typed e m.store → Safe e m.store (opens v k c b y) →
@@ -151,7 +155,7 @@ module _ (lim : Limits) where
     unfolding run
     opens_run {m} {m₁} {v} {k} {c} {b} {q} {y} {o} u w typed (safe_opens {n = n} i f) rest =
         record {
-          same = ap (opened_on lim _ m) (replaced_so typed.sane.pass i u.is_due) ∙ charged_next _ u.due u.written u.then_tally u.then_at w.rows ∙
+          same = ap (opened_on lim (going_on d e r y) m) (replaced_so typed.sane.pass i u.is_due) ∙ charged_next (going_on d e r y) u.due u.written u.then_tally u.then_at w.rows ∙
               (rest (typed_later stands.more stands.pass typed) (f _ _ stands.more stands.pass stands.scope)).same;
         }
       where
@@ -163,8 +167,8 @@ module _ (lim : Limits) where
     opens_refused : {m m₁ : Tally} {v : Option Ptr} {k c : ℕ} {b : Ptr} {y : Store → Ptr → Ask} {a : InferDemand} {n : ℕ} → OpensMeets m v k c b a m₁ →
         Within lim m₁ → InferFails lim m₁ a n → Typed e m.store → Safe e m.store (opens v k c b y) → Gets d e r m (opens v k c b y) (no n)
     unfolding run
-    opens_refused {m} (F.OpensMeets.its_row {g = g} q x z) v (as_reduction_fails f) typed (safe_opens i h) =
-        record { same = ap (opened_on lim _ m) (replaced_so typed.sane.pass i q) ∙ ap (charged_on _ m g) (due_refused x z v f) }
+    opens_refused {m} {y = y} (F.OpensMeets.its_row {g = g} q x z) v (as_reduction_fails f) typed (safe_opens i h) =
+        record { same = ap (opened_on lim (going_on d e r y) m) (replaced_so typed.sane.pass i q) ∙ ap (charged_on (going_on d e r y) m g) (due_refused x z v f) }
 
     -- REDUCTIONS AND PARTS
 

@@ -224,7 +224,7 @@ module _ (lim : Limits) (d : ℕ) (parts : Part)
   ask_says r (level_then l y) m v typed (safe_level f) = level_says lim l (cmp l most_level) v λ h. ask_says r y m v typed (f h)
   ask_says r (writes w y) m v typed (safe_writes o b f) =
       let x = ext_put m.store (cell m.store w) in
-      after_charge lim (put m.store w) _ v (charge_says lim m.store (put m.store w).store x v.rows)
+      after_charge lim (put m.store w) (λ m₁ p. run lim e (λ e'. side_at e' lim d) parts r (y m₁.store p) m₁) v (charge_says lim m.store (put m.store w).store x v.rows)
       (λ z u.
       let a = row_passes typed.sane.pass o b z in
       let p = row_put m w z in
@@ -242,7 +242,7 @@ module _ (lim : Limits) (d : ℕ) (parts : Part)
           (run lim e (λ e'. side_at e' lim d) parts r (y g.store g.at) (tally m.steps g.store))) →
           Says lim e d r m (opens v' k c b y) (opened_on lim (λ m₁ p. run lim e (λ e'. side_at e' lim d) parts r (y m₁.store p) m₁) m x)
       on_found found (just {a = g} q) rest =
-          after_charge lim g _ v (charge_says lim m.store g.store (ext_replaces q) v.rows)
+          after_charge lim g (λ m₁ p. run lim e (λ e'. side_at e' lim d) parts r (y m₁.store p) m₁) v (charge_says lim m.store g.store (ext_replaces q) v.rows)
           (λ z u.
           let p = rows_opened m q z in
           says_after lim (ext_replaces q) (λ m' q c. opened p c) (λ c m₂ t. C.after_rows p t) (rest g q z u))

@@ -10,7 +10,7 @@ use Rattle.rules.specs.Spines.{Spine}
 use Rattle.rules.specs.Arithmetic.{compute}
 use Rattle.rules.specs.Firings.{Result}
 use Rattle.rules.specs.HeadTests.{field_at, quot_parts, quot_made, rec_parts, as_constructor, by_rule, as_number, operands, outcome, unfolds}
-use Rattle.course.specs.Tries.{Try, no_rule, fires, writes, reduces, with_it, ◌or-else◌, lambda, variable, projection, quot, recursion, arithmetic}
+use Rattle.course.specs.Tries.{Try, no_rule, fires, writes, reduces, with_it, ◌or_else◌, lambda, variable, projection, quot, recursion, arithmetic}
 use Rattle.course.specs.Tries.{delta, constant, at_row, rules}
 use Rattle.substitution.specs.Stores.{Ext, ext_same, ext_then}
 use Rattle.substitution.specs.Passing.{Worded}
@@ -41,7 +41,7 @@ safe_with (some a) next k = k a refl
 -- the next rule is tried from whatever store the first left
 safe_else : {D d : ℕ} {s : Store} {y : Try} (z : Try) →
     AllPass D s → Safe D d s y → ((s' : Store) → Ext s s' → AllPass D s' → Safe D d s' z) → Safe D d s (y or_else z)
-unfolding ◌or-else◌
+unfolding ◌or_else◌
 safe_else {s = s} z a safe_none k = k s (ext_same s) a
 safe_else z a (safe_fires r h) k = safe_fires r h
 safe_else {s = s} z a (safe_writes {ws = ws} r f) k = safe_writes r λ b. safe_else z b (f b) λ s' x. k s' (ext_then (ext_grow s ws) x)
