@@ -16,7 +16,7 @@ use Rattle.substitution.specs.Stores.{FieldsOk, node_fields, first_ok, second_ok
 use Rattle.substitution.specs.Stores.{ext_same, ext_good, put_formed, put_good, up_child}
 use Rattle.substitution.specs.Reading.{reads_exists}
 use Rattle.substitution.specs.Existence.{Kept}
-use Rattle.substitution.specs.Applied.{AllGood, no_more, and_good, all_good, none_left, spine-reads}
+use Rattle.substitution.specs.Applied.{AllGood, no_more, and_good, all_good, none_left, spine_reads}
 use Rattle.substitution.specs.Dues.{opened_good, itself_good, number_good, constant_good, due_keeps}
 use Rattle.again.specs.Carried.{later_fired}
 use Rattle.again.specs.Alike.{Opt, nones, somes, Each, ended, next, NewRow, new_const, new_num, new_app, Likeness, rows_grown, ResultLike}
@@ -118,7 +118,7 @@ record SpineStands (s : Store) (h : Ptr) (xs : List Ptr) : Type 0 where
 
 spine_stands : {s : Store} {t h : Ptr} {xs : List Ptr} → Formed s → Good s t → Spine s t [] h xs → SpineStands s h xs
 spine_stands {s} {h = h} f o p =
-    let d = spine-reads f o (reads_exists f o).reads none_left p in
+    let d = spine_reads f o (reads_exists f o).reads none_left p in
     record { head = row_stands (row_at s h.row) h.shift (good_fields f d.good); arguments = all_stand (all_good d.arguments) }
 
 -- A FIRING

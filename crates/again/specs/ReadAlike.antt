@@ -64,30 +64,30 @@ record NewReads (s s̃ : Store) (w w̃ : Row) : Type 0 where
   left : Replaced s (put s w) tree
   right : Replaced s̃ (put s̃ w̃) tree
 
-new-reads : {s s̃ : Store} {w w̃ : Row} → BothFormed s s̃ → NewRow ReadAlike s s̃ w w̃ → NewReads s s̃ w w̃
+new_reads : {s s̃ : Store} {w w̃ : Row} → BothFormed s s̃ → NewRow ReadAlike s s̃ w w̃ → NewReads s s̃ w w̃
 unfolding fields table
-new-reads f (new_const {d = d} {n = n}) = record {
+new_reads f (new_const {d = d} {n = n}) = record {
   tree = const d n;
   left = put_reads f.left (node_fields (plain_ok refl) (plain_ok refl) (plain_ok refl)) reads_const;
   right = put_reads f.right (node_fields (plain_ok refl) (plain_ok refl) (plain_ok refl)) reads_const;
 }
-new-reads f (new_num {n = n}) = record {
+new_reads f (new_num {n = n}) = record {
   tree = num n;
   left = put_reads f.left (node_fields (plain_ok refl) (plain_ok refl) (plain_ok refl)) reads_num;
   right = put_reads f.right (node_fields (plain_ok refl) (plain_ok refl) (plain_ok refl)) reads_num;
 }
-new-reads f (new_app p q) = record {
+new_reads f (new_app p q) = record {
   tree = app p.tree q.tree;
   left = put_reads f.left (node_fields (term_ok p.good) (term_ok q.good) (plain_ok refl)) (reads_app p.reads q.reads);
   right = put_reads f.right (node_fields (term_ok p.good_right) (term_ok q.good_right) (plain_ok refl)) (reads_app p.reads_right q.reads_right);
 }
 
 pub written_alike : {s s̃ : Store} {w w̃ : Row} → BothFormed s s̃ → NewRow ReadAlike s s̃ w w̃ → BothFormed (put s w).store (put s̃ w̃).store
-written_alike f n = let r = new-reads f n in record { left = r.left.formed; right = r.right.formed }
+written_alike f n = let r = new_reads f n in record { left = r.left.formed; right = r.right.formed }
 
 pub pointed_alike : {s s̃ : Store} {w w̃ : Row} → BothFormed s s̃ → NewRow ReadAlike s s̃ w w̃ → ReadAlike (put s w).store (put s̃ w̃).store (put s w).at (put s̃ w̃).at
 pointed_alike f n =
-    let r = new-reads f n in
+    let r = new_reads f n in
     record { tree = r.tree; good = r.left.good; good_right = r.right.good; reads = r.left.reads; reads_right = r.right.reads }
 
 abbrev pub reading : Likeness
@@ -128,8 +128,8 @@ row_reads k f o (reads_let {w = w} q r c) =
 row_reads k f o (reads_proj q) = at_proj (up_child k (term_child (first_ok o))) (reads_up k f (term_child (first_ok o)) q)
 row_reads k f o reads_num = at_num
 
-head-reads : {s : Store} {h : Ptr} {t : Tree} → Formed s → Good s h → Reads s h t → HeadReads s h.shift (row_at s h.row) t
-head-reads {s} {h} f o r =
+head_reads : {s : Store} {h : Ptr} {t : Tree} → Formed s → Good s h → Reads s h t → HeadReads s h.shift (row_at s h.row) t
+head_reads {s} {h} f o r =
     let b = before_shift r in along (HeadReads s h.shift (row_at s h.row)) b.is (row_reads h.shift f (good_fields f o) b.row)
 
 -- one tree: the same kind
@@ -149,4 +149,4 @@ one_tree at_num at_num = head_num
 pub rules_read_alike : {s s̃ : Store} {e ẽ : Env} (h h̃ : Ptr) {xs x̃s : List Ptr} → BothFormed s s̃ → EnvLike reading s s̃ e ẽ → ReadAlike s s̃ h h̃ →
     Each (ReadAlike s s̃) xs x̃s → Twin reading s s̃ (rules e s h xs) (rules ẽ s̃ h̃ x̃s)
 rules_read_alike h h̃ f v r q =
-    rules_twin reading h h̃ f v (one_tree (head-reads f.left r.good r.reads) (head-reads f.right r.good_right r.reads_right)) q
+    rules_twin reading h h̃ f v (one_tree (head_reads f.left r.good r.reads) (head_reads f.right r.good_right r.reads_right)) q

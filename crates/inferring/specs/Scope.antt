@@ -15,7 +15,7 @@ use Rattle.substitution.specs.Trees.{loose}
 use Rattle.substitution.specs.Bounds.{loose-shift, bound_is_loose}
 use Rattle.substitution.specs.Stores.{first_ok, second_ok, term_child, body_child, Formed, put_good, end_cell}
 use Rattle.substitution.specs.Reading.{reads_exists}
-use Rattle.substitution.specs.Replacing.{replace-none-reads}
+use Rattle.substitution.specs.Replacing.{replace_none_reads}
 use Rattle.safety.specs.Scope.{up_in, RowIn, BodyIn, none_in, opened_in, due_in}
 
 -- a row's bound n, shifted k, has room for each child's share m of it
@@ -73,7 +73,7 @@ standing_scope {s} {d} {b} i = record { there = i.good.lower; still = i.good.sti
 pub moved_scope : {s : Store} {d k : ℕ} {b : Ptr} {g : Got} → Formed s → BodyIn s d k b → Replaces none k 1 s b g → InScope g.store (suc d) g.at
 moved_scope {s} {d} {k} {b} {g} f i q =
     let t = reads_exists f i.good in
-    let r = replace-none-reads f i.good t.reads q in
+    let r = replace_none_reads f i.good t.reads q in
     let was = bound_is_loose f i.good t.reads in
     let is = bound_is_loose r.formed r.good r.reads in
     record { there = r.good.lower; still = r.good.still; within = omega (arith, is, go t.tree was (place 1 (loose t.tree))) }

@@ -13,7 +13,7 @@ use Rattle.rules.specs.ReadOut.{Tree, const, app, num, Reads}
 use Rattle.substitution.specs.Stores.{Formed, Good, Ext, ext_then}
 use Rattle.substitution.specs.Reading.{reads_unique, reads_later}
 use Rattle.substitution.specs.Applied.{apply, ReadAll, none_left, and_then}
-use Rattle.substitution.specs.Fired.{ResultReads, number-reads, constant-reads}
+use Rattle.substitution.specs.Fired.{ResultReads, number_reads, constant_reads}
 use Rattle.safety.specs.Lists.{none_some, some_same}
 use Rattle.safety.specs.Parts.{given_some, provided_some}
 use Rattle.readings.specs.TreeRules.{Outcome, a_number, a_yes, a_no, Steps, AfterBoth}
@@ -65,13 +65,13 @@ record OutcomeRead (e : Env) (s : Store) (c : Computed) (r : Result) : Type 0 wh
 outcome_read : {r : Result} (e : Env) (s : Store) (c : Computed) → outcome e c ≡ some r → OutcomeRead e s c r
 unfolding outcome
 outcome_read e s (number n) q =
-    along (OutcomeRead e s (number n)) (some_same q) (record { tree = num n; reads = number-reads; is = a_number })
+    along (OutcomeRead e s (number n)) (some_same q) (record { tree = num n; reads = number_reads; is = a_number })
 outcome_read e s (truth true) q =
     let h = given_some (holder e true') _ q in
-    along (OutcomeRead e s (truth true)) (some_same h.then) (record { tree = const h.it 0; reads = constant-reads; is = a_yes h.first })
+    along (OutcomeRead e s (truth true)) (some_same h.then) (record { tree = const h.it 0; reads = constant_reads; is = a_yes h.first })
 outcome_read e s (truth false) q =
     let h = given_some (holder e false') _ q in
-    along (OutcomeRead e s (truth false)) (some_same h.then) (record { tree = const h.it 0; reads = constant-reads; is = a_no h.first })
+    along (OutcomeRead e s (truth false)) (some_same h.then) (record { tree = const h.it 0; reads = constant_reads; is = a_no h.first })
 
 -- a side reduction that ended in a number
 to_number : {e : Env} {base s s₁ : Store} {p : Ptr} {w : Row} {ys : List Ptr} {n : ℕ} (d : SideRead e base s p s₁ w ys) → as_number w ys ≡ some n →

@@ -18,7 +18,7 @@ use Rattle.rules.specs.ReadOut.{Tree, const, shift, Reads, ReadsRow, reads_const
 use Rattle.substitution.specs.Stores.{Formed, Good, Ext}
 use Rattle.substitution.specs.Reading.{reads_exists, reads_unique, at_row}
 use Rattle.substitution.specs.Applied.{apply, ReadAll, and_then, all_later}
-use Rattle.substitution.specs.Fired.{head-reads}
+use Rattle.substitution.specs.Fired.{head_reads}
 use Rattle.safety.specs.Lists.{none_some, some_same}
 use Rattle.safety.specs.Parts.{given_some, provided_some}
 use Rattle.readings.specs.TreeRules.{Delta, Quotient, AfterSide}
@@ -52,7 +52,7 @@ const_tree k reads_const e = e
 pub constant_read : {e : Env} {s : Store} {t : Ptr} {D : Decl} {n : ℕ} {xs : List Ptr} {u : Tree} → Formed s → Good s t → Reads s t u →
     (h : Constant e s t D n xs) → ConstantRead s h.named n xs u
 constant_read f o r h =
-    let p = head-reads f o r h.head in
+    let p = head_reads f o r h.head in
     let w = at_row h.head.row p.reads in
     record {
       trees = p.trees;

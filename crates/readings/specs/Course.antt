@@ -22,7 +22,7 @@ use Rattle.promises.specs.Stores.{ext_grow}
 use Rattle.substitution.specs.Stores.{Formed, Good, scope_good, Ext, ext_same, ext_then}
 use Rattle.substitution.specs.Passing.{pass_formed}
 use Rattle.substitution.specs.Reading.{reads_exists, reads_later, at_row}
-use Rattle.substitution.specs.Fired.{pays_due, head-reads}
+use Rattle.substitution.specs.Fired.{pays_due, head_reads}
 use Rattle.safety.specs.Sane.{depth_of, decl_count, Sane, in_later}
 use Rattle.safety.specs.Scope.{AllIn, none_in, all_later, RowIn, row_in, structure_in, spine_in}
 use Rattle.safety.specs.Parts.{quot_in, rec_in, operands_in, unfolds_to_lem}
@@ -120,7 +120,7 @@ module _ {e : Env} {base : Store} (old : Sane e base) where
   ended : {s s₁ : Store} {p q : Ptr} {w : Row} {k : ℕ} {ys : List Ptr} {asked : Tree} → Reads s p asked → ReductionRead asked s₁ q → Leaves e s s₁ q →
       Head s₁ q w k ys → SideRead e base s p s₁ w ys
   ended {asked = asked} r z k h =
-      let spine = head-reads (formed k.sane) (scope_good k.term) z.reads h in
+      let spine = head_reads (formed k.sane) (scope_good k.term) z.reads h in
       record {
         asked = asked;
         reads_asked = r;

@@ -125,17 +125,17 @@ module _ {e : Env} {d : ℕ} {m : Tally} {t : Ptr} (sane : Sane e m.store) (scop
       fired (by_delta h nq nr na q) (delta_at sane (ext_same m.store) sane scope (the_tree sane scope).reads h past q) due
 
   -- "A rule that fires costs one step, then writes its rows, then applies the remaining arguments": whichever rule it is, its tree rule
-  pub firing-reads : {m₁ : Tally} {r : Result} {xs : List Ptr} {g : Got} → Fires e d m t m₁ r xs → Due m₁.store r xs g →
+  pub firing_reads : {m₁ : Tally} {r : Result} {xs : List Ptr} {g : Got} → Fires e d m t m₁ r xs → Due m₁.store r xs g →
       FiredAs (Step e m.store) m.store t m₁.store g
-  firing-reads f due = fired f (firing_read sane (ext_same m.store) sane scope (the_tree sane scope).reads f) due
+  firing_reads f due = fired f (firing_read sane (ext_same m.store) sane scope (the_tree sane scope).reads f) due
 
   -- "reduction goes on with the result": tree rules in a row
-  pub reduction-reads : {m' : Tally} {t' : Ptr} → Reduces e d m t m' t' → ReducedAs e m.store t m'.store t'
-  reduction-reads r =
+  pub reduction_reads : {m' : Tally} {t' : Ptr} → Reduces e d m t m' t' → ReducedAs e m.store t m'.store t'
+  reduction_reads r =
       let z = reduction_read sane (ext_same m.store) sane scope (the_tree sane scope).reads r in
       record { before = (the_tree sane scope).tree; after = z.tree; reads_before = (the_tree sane scope).reads; steps = z.steps; reads_after = z.reads }
 
 -- so the answer to an accepted call reads out as what the tree rules lead the asked term to
-pub accepted-reads : {w : Lent} {e : Env} {s : Store} {lim : Limits} {n k : ℕ} {t' : Ptr} {s' : Store} → Accepted w e s →
+pub accepted_reads : {w : Lent} {e : Env} {s : Store} {lim : Limits} {n k : ℕ} {t' : Ptr} {s' : Store} → Accepted w e s →
     Answered e lim n s w.term t' k s' → ReducedAs e s w.term s' t'
-accepted-reads a q = reduction-reads (accepted_ready a).sane (accepted_ready a).term q.reduces
+accepted_reads a q = reduction_reads (accepted_ready a).sane (accepted_ready a).term q.reduces

@@ -18,9 +18,9 @@ use Rattle.substitution.specs.Stores.{FieldsOk, first_ok, term_child, Formed, Go
 use Rattle.substitution.specs.Reading.{reads_exists, reads_unique, reads_later, RowReads, at_row}
 use Rattle.substitution.specs.Bounds.{reads_up}
 use Rattle.substitution.specs.Replacing.{Replaced}
-use Rattle.substitution.specs.Heads.{BinderReads, lam-reads, LetReads, let-reads, value-reads}
+use Rattle.substitution.specs.Heads.{BinderReads, lam_reads, LetReads, let_reads, value_reads}
 use Rattle.substitution.specs.Applied.{apply, ReadAll, and_then, all_later}
-use Rattle.substitution.specs.Fired.{ResultReads, opened-reads, itself-reads, due-reads, head-reads}
+use Rattle.substitution.specs.Fired.{ResultReads, opened_reads, itself_reads, due_reads, head_reads}
 use Rattle.safety.specs.Lists.{none_some, some_same}
 use Rattle.safety.specs.Sane.{Sane}
 use Rattle.safety.specs.Parts.{given_some}
@@ -40,11 +40,11 @@ pub record Given (P : Tree → Type 0) (s : Store) (r : Result) (xs : List Ptr) 
 -- what is due reads out as that
 pub given_due : {P : Tree → Type 0} {s : Store} {r : Result} {xs : List Ptr} {g : Got} → Formed s → (v : Given P s r xs) → Due s r xs g →
     Replaced s g (apply v.result v.rest)
-given_due f v d = due-reads f v.reads_result v.reads_rest d
+given_due f v d = due_reads f v.reads_result v.reads_rest d
 
 -- a pointer that stood before rows were written
 pub itself_later : {s s₁ : Store} {p : Ptr} {t : Tree} → Formed s → Ext s s₁ → Good s p → Reads s p t → ResultReads s₁ (itself p) t
-itself_later f x o r = itself-reads (ext_good x o) (reads_later f x o r)
+itself_later f x o r = itself_reads (ext_good x o) (reads_later f x o r)
 
 -- SIDE REDUCTIONS
 
@@ -72,7 +72,7 @@ beta_from : {s : Store} {a x b : Ptr} {k : ℕ} {xs : List Ptr} {t u : Tree} {us
 beta_from l (and_then {u = v} {us = us} o r q) e = record {
   result = subst v 0 l.body;
   rest = us;
-  reads_result = opened-reads l.under o r refl;
+  reads_result = opened_reads l.under o r refl;
   reads_rest = q;
   rule = record {
     type = l.type;
@@ -87,15 +87,15 @@ beta_from l (and_then {u = v} {us = us} o r q) e = record {
 pub beta_read : {s : Store} {t x b z a : Ptr} {k : ℕ} {xs : List Ptr} {u : Tree} → Formed s → Good s t → Reads s t u →
     Head s t (node K.lam x b z) k (a ∷ xs) → Given (Beta u) s (opened b a k) xs
 beta_read {s} {x = x} {b} f o r h =
-    let p = head-reads f o r h in
-    beta_from (along (λ (n : ℕ). BinderReads lam s x b n p.tree) h.shift (lam-reads f p.good h.row p.reads)) p.arguments p.whole
+    let p = head_reads f o r h in
+    beta_from (along (λ (n : ℕ). BinderReads lam s x b n p.tree) h.shift (lam_reads f p.good h.row p.reads)) p.arguments p.whole
 
 zeta_from : {s : Store} {x v b a : Ptr} {k : ℕ} {xs : List Ptr} {t u : Tree} {us : List Tree} →
     LetReads s x v b k t → ReadAll s xs us → apply t us ≡ u → up s v k ≡ a → Given (Zeta u) s (opened b a k) xs
 zeta_from {s} {us = us} l q e i = record {
   result = subst l.value 0 l.body;
   rest = us;
-  reads_result = opened-reads l.under (along (Good s) i l.good_value) (along (λ (p : Ptr). Reads s p l.value) i l.reads_value) refl;
+  reads_result = opened_reads l.under (along (Good s) i l.good_value) (along (λ (p : Ptr). Reads s p l.value) i l.reads_value) refl;
   reads_rest = q;
   rule = record {
     type = l.type;
@@ -110,8 +110,8 @@ zeta_from {s} {us = us} l q e i = record {
 pub zeta_read : {s : Store} {t x v b a : Ptr} {k : ℕ} {xs : List Ptr} {u : Tree} → Formed s → Good s t → Reads s t u →
     Head s t (node K.let' x v b) k xs → up s v k ≡ a → Given (Zeta u) s (opened b a k) xs
 zeta_read {s} {x = x} {v} {b} f o r h i =
-    let p = head-reads f o r h in
-    zeta_from (along (λ (n : ℕ). LetReads s x v b n p.tree) h.shift (let-reads f p.good h.row p.reads)) p.arguments p.whole i
+    let p = head_reads f o r h in
+    zeta_from (along (λ (n : ℕ). LetReads s x v b n p.tree) h.shift (let_reads f p.good h.row p.reads)) p.arguments p.whole i
 
 -- A CONTEXT VALUE
 
@@ -122,15 +122,15 @@ pub local_read : {e : Env} {base s : Store} {t v a : Ptr} {k i : ℕ} {xs : List
     Formed s → Good s t → Reads s t u → Head s t (R.var i) k xs → value_of e (i + k) ≡ some v → up s v (suc (i + k)) ≡ a →
     Given (LocalDelta e base u) s (itself a) xs
 local_read {s = s} {v = v} {k = k} {i} f₀ o₀ x f o r h has e =
-    let p = head-reads f o r h in
+    let p = head_reads f o r h in
     let w = at_row h.row p.reads in
     let value = reads_exists f₀ o₀ in
-    let here = value-reads (i + k) f (ext_good x o₀) (reads_later f₀ x o₀ value.reads) in
+    let here = value_reads (i + k) f (ext_good x o₀) (reads_later f₀ x o₀ value.reads) in
     let is_var : var (i + k) ≡ p.tree = ap (λ (n : ℕ). var (i + n)) (sym h.shift) ∙ var_tree h.at.shift w.row w.is in
     record {
       result = shift (suc (i + k)) 0 value.tree;
       rest = p.trees;
-      reads_result = itself-reads (along (Good s) e (up_child (suc (i + k)) (ext_good x o₀)))
+      reads_result = itself_reads (along (Good s) e (up_child (suc (i + k)) (ext_good x o₀)))
           (along (λ (z : Ptr). Reads s z (shift (suc (i + k)) 0 value.tree)) e here);
       reads_rest = p.arguments;
       rule = record {
@@ -167,7 +167,7 @@ pub projection_read : {e : Env} {base s s₁ : Store} {t x y z a : Ptr} {k c i :
     Given (AfterSide e base (Projection e) u) s₁ (itself a) xs
 unfolding field_at
 projection_read {e} {s = s} {x = x} {y} {z} {k = k} {c} {i} {w} {ys = ys} f o r h d q =
-    let p = head-reads f o r h in
+    let p = head_reads f o r h in
     let row = along (λ (n : ℕ). RowReads s (node (K.proj c i) x y z) n p.tree) h.shift (at_row h.row p.reads) in
     let is_proj = proj_tree k f (fields_at f p.good h.row) row.row row.is d.reads_asked in
     let name = given_some (as_constant w) _ q in
@@ -178,7 +178,7 @@ projection_read {e} {s = s} {x = x} {y} {z} {k = k} {c} {i} {w} {ys = ys} f o r 
     record {
       result = field.tree;
       rest = p.trees;
-      reads_result = itself-reads field.good field.reads;
+      reads_result = itself_reads field.good field.reads;
       reads_rest = all_later f d.more p.arguments;
       rule = record {
         asked = d.asked;

@@ -16,7 +16,7 @@ use Rattle.substitution.specs.Stores.{FieldsOk, first_ok, second_ok, third_ok, t
 use Rattle.substitution.specs.Reading.{reads_exists}
 use Rattle.substitution.specs.Passing.{Worded, pass_formed, pass_worded}
 use Rattle.substitution.specs.Applied.{apply, ReadAll, none_left, and_then, AllGood, no_more, and_good}
-use Rattle.substitution.specs.Fired.{ResultReads, opened-reads, itself-reads, number-reads, constant-reads, due-reads}
+use Rattle.substitution.specs.Fired.{ResultReads, opened_reads, itself_reads, number_reads, constant_reads, due_reads}
 use Rattle.substitution.specs.Dues.{ResultGood, opened_good, itself_good, number_good, constant_good}
 use Rattle.safety.specs.Sane.{in_later}
 
@@ -228,14 +228,14 @@ result_low {d = d} f (opened_in {k = k} b v) =
     let u = reads_exists f (scope_good v) in
     record {
       tree = subst u.tree 0 (shift k 1 t.tree);
-      reads = opened-reads (record { base = t.tree; good = b.good; reads = t.reads; is = refl }) (scope_good v) u.reads refl;
+      reads = opened_reads (record { base = t.tree; good = b.good; reads = t.reads; is = refl }) (scope_good v) u.reads refl;
       low = opened_loose u.tree t.tree k d (body_low f b t.reads) (in_low f v u.reads);
     }
 result_low f (itself_in i) =
     let r = reads_exists f (scope_good i) in
-    record { tree = r.tree; reads = itself-reads (scope_good i) r.reads; low = in_low f i r.reads }
-result_low f (number_in {n = n}) = record { tree = num n; reads = number-reads; low = omega arith }
-result_low f (constant_in {c = c} h) = record { tree = const c 0; reads = constant-reads; low = omega arith }
+    record { tree = r.tree; reads = itself_reads (scope_good i) r.reads; low = in_low f i r.reads }
+result_low f (number_in {n = n}) = record { tree = num n; reads = number_reads; low = omega arith }
+result_low f (constant_in {c = c} h) = record { tree = const c 0; reads = constant_reads; low = omega arith }
 
 record AllReadLow (s : Store) (d : ℕ) (xs : List Ptr) : Type 0 where
   trees : List Tree
@@ -254,7 +254,7 @@ pub due_in : {D : ℕ} {s : Store} {d : ℕ} {r : Result} {xs : List Ptr} {g : G
 due_in f i is q =
     let r = result_low f i in
     let c = all_low f is in
-    let x = due-reads f r.reads c.reads q in
+    let x = due_reads f r.reads c.reads q in
     record {
       there = x.good.lower;
       still = x.good.still;

@@ -82,14 +82,14 @@ app_parts k d o (reads_app {t = x} {u = y} q q') e = record {
   whole = e;
 }
 
-pub spine-reads : {s : Store} {p h : Ptr} {xs ys : List Ptr} {t : Tree} {us : List Tree} →
+pub spine_reads : {s : Store} {p h : Ptr} {xs ys : List Ptr} {t : Tree} {us : List Tree} →
     Formed s → Good s p → Reads s p t → ReadAll s xs us → Spine s p xs h ys → SpineReads s h ys (apply t us)
 unfolding apply
-spine-reads {t = t} {us = us} d o r q (head n) = record { tree = t; trees = us; good = o; reads = r; arguments = q; whole = refl }
-spine-reads {s} {p} {us = us} d o r q (through {h = h} {ys = ys} e c) =
+spine_reads {t = t} {us = us} d o r q (head n) = record { tree = t; trees = us; good = o; reads = r; arguments = q; whole = refl }
+spine_reads {s} {p} {us = us} d o r q (through {h = h} {ys = ys} e c) =
     let w = at_row e r in
     let b = app_parts p.shift d (fields_at d o e) w.row w.is in
-    let r' = spine-reads d b.good_function b.reads_function (and_then b.good_argument b.reads_argument q) c in
+    let r' = spine_reads d b.good_function b.reads_function (and_then b.good_argument b.reads_argument q) c in
     along (λ (t : Tree). SpineReads s h ys (apply t us)) b.whole r'
 
 -- ARGUMENTS JOINED ON
@@ -98,11 +98,11 @@ pub app_fields : {s : Store} {p a : Ptr} → Good s p → Good s a → FieldsOk 
 unfolding fields table
 app_fields o q = node_fields (term_ok o) (term_ok q) (plain_ok refl)
 
-pub joined-reads : {s : Store} {p : Ptr} {t : Tree} (xs : List Ptr) {us : List Tree} →
+pub joined_reads : {s : Store} {p : Ptr} {t : Tree} (xs : List Ptr) {us : List Tree} →
     Formed s → Good s p → Reads s p t → ReadAll s xs us → Replaced s (joined s p xs) (apply t us)
 unfolding joined apply
-joined-reads {s} [] f o r none_left = record { more = ext_same s; formed = f; good = o; reads = r }
-joined-reads {s = s} {p = p} (a ∷ xs) f o r (and_then y q c) =
+joined_reads {s} [] f o r none_left = record { more = ext_same s; formed = f; good = o; reads = r }
+joined_reads {s = s} {p = p} (a ∷ xs) f o r (and_then y q c) =
     let d = put_reads f (app_fields o y) (reads_app r q) in
-    let j = joined-reads {s = (put s (node K.app p a blank)).store} xs d.formed d.good d.reads (all_later f d.more c) in
+    let j = joined_reads {s = (put s (node K.app p a blank)).store} xs d.formed d.good d.reads (all_later f d.more c) in
     record { more = ext_then d.more j.more; formed = j.formed; good = j.good; reads = j.reads }

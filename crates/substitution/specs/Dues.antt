@@ -13,7 +13,7 @@ use Rattle.substitution.specs.Stores.{Formed, Good}
 use Rattle.substitution.specs.Reading.{reads_exists}
 use Rattle.substitution.specs.Existence.{some_good, Kept, replaces_exists, replaces_unique}
 use Rattle.substitution.specs.Applied.{AllGood, all_read}
-use Rattle.substitution.specs.Fired.{ResultReads, opened-reads, itself-reads, number-reads, constant-reads, due-reads}
+use Rattle.substitution.specs.Fired.{ResultReads, opened_reads, itself_reads, number_reads, constant_reads, due_reads}
 
 -- its pointers are good, and a constant that it writes is declared: there are D declarations
 pub data ResultGood (D : ℕ) (s : Store) : Result → Type 0 where
@@ -35,15 +35,15 @@ result_read f (opened_good {k = k} o y) =
     let v = reads_exists f y in
     record {
       tree = T.subst v.tree 0 (T.shift k 1 b.tree);
-      reads = opened-reads (record { base = b.tree; good = o; reads = b.reads; is = refl }) y v.reads refl;
+      reads = opened_reads (record { base = b.tree; good = o; reads = b.reads; is = refl }) y v.reads refl;
     }
-result_read f (itself_good o) = let r = reads_exists f o in record { tree = r.tree; reads = itself-reads o r.reads }
-result_read f (number_good {n = n}) = record { tree = T.num n; reads = number-reads }
-result_read f (constant_good {d = d} h) = record { tree = T.const d 0; reads = constant-reads }
+result_read f (itself_good o) = let r = reads_exists f o in record { tree = r.tree; reads = itself_reads o r.reads }
+result_read f (number_good {n = n}) = record { tree = T.num n; reads = number_reads }
+result_read f (constant_good {d = d} h) = record { tree = T.const d 0; reads = constant_reads }
 
 pub due_keeps : {D : ℕ} {s : Store} {r : Result} {xs : List Ptr} {g : Got} → Formed s → ResultGood D s r → AllGood s xs → Due s r xs g → Kept s g
 due_keeps f o q d =
-    let x = due-reads f (result_read f o).reads (all_read f q).all d in
+    let x = due_reads f (result_read f o).reads (all_read f q).all d in
     record { more = x.more; formed = x.formed; good = x.good }
 
 -- EXACTLY ONE

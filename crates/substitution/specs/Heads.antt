@@ -13,7 +13,7 @@ use Rattle.substitution.specs.TreeLaws.{shift_zero}
 use Rattle.substitution.specs.Stores.{FieldsOk, first_ok, second_ok, third_ok, term_child, body_child, Formed, Good, fields_at, up_child}
 use Rattle.substitution.specs.Reading.{at_row}
 use Rattle.substitution.specs.Bounds.{reads_up}
-use Rattle.substitution.specs.Replacing.{Replaced, replace-none-reads, replace-some-reads}
+use Rattle.substitution.specs.Replacing.{Replaced, replace_none_reads, replace_some_reads}
 
 -- UNDER A BINDER
 
@@ -29,11 +29,11 @@ pub body_given : {s : Store} {b a : Ptr} {k : ℕ} {body u : Tree} {g : Got} →
     Formed s → BodyReads s b k body → Good s a → Reads s a u → Replaces (some a) k 0 s b g → Replaced s g (subst u 0 body)
 body_given {s} {k = k} {u = u} {g} f b o r q =
     along (λ (t : Tree). Replaced s g (subst u 0 t)) b.is
-    (along (λ (v : Tree). Replaced s g (subst v 0 (shift k 1 b.base))) (shift_zero 0 u) (replace-some-reads f b.good o b.reads r q))
+    (along (λ (v : Tree). Replaced s g (subst v 0 (shift k 1 b.base))) (shift_zero 0 u) (replace_some_reads f b.good o b.reads r q))
 
 -- opened as it stands
 pub body_opened : {s : Store} {b : Ptr} {k : ℕ} {body : Tree} {g : Got} → Formed s → BodyReads s b k body → Replaces none k 1 s b g → Replaced s g body
-body_opened {s} {g = g} f b q = along (Replaced s g) b.is (replace-none-reads f b.good b.reads q)
+body_opened {s} {g = g} f b q = along (Replaced s g) b.is (replace_none_reads f b.good b.reads q)
 
 -- HEADS BY THEIR ROWS
 
@@ -68,13 +68,13 @@ pi_row : {s : Store} {x b z : Ptr} {t u : Tree} (k : ℕ) →
 unfolding shift fields table
 pi_row k f o (reads_pi q r) e = binder_parts pi k f (first_ok o) (second_ok o) q r e
 
-pub lam-reads : {s : Store} {p x b z : Ptr} {t : Tree} →
+pub lam_reads : {s : Store} {p x b z : Ptr} {t : Tree} →
     Formed s → Good s p → row_at s p.row ≡ node K.lam x b z → Reads s p t → BinderReads lam s x b p.shift t
-lam-reads {p = p} f o e r = let w = at_row e r in lam_row p.shift f (fields_at f o e) w.row w.is
+lam_reads {p = p} f o e r = let w = at_row e r in lam_row p.shift f (fields_at f o e) w.row w.is
 
-pub pi-reads : {s : Store} {p x b z : Ptr} {t : Tree} →
+pub pi_reads : {s : Store} {p x b z : Ptr} {t : Tree} →
     Formed s → Good s p → row_at s p.row ≡ node K.pi x b z → Reads s p t → BinderReads pi s x b p.shift t
-pi-reads {p = p} f o e r = let w = at_row e r in pi_row p.shift f (fields_at f o e) w.row w.is
+pi_reads {p = p} f o e r = let w = at_row e r in pi_row p.shift f (fields_at f o e) w.row w.is
 
 -- a let: its type, value and body, shifted with it
 pub record LetReads (s : Store) (x v b : Ptr) (k : ℕ) (t : Tree) : Type 0 where
@@ -99,32 +99,32 @@ let_row k f o (reads_let {t = t} {u = u} {w = w} q r c) e = record {
   is = e;
 }
 
-pub let-reads : {s : Store} {p x v b : Ptr} {t : Tree} →
+pub let_reads : {s : Store} {p x v b : Ptr} {t : Tree} →
     Formed s → Good s p → row_at s p.row ≡ node K.let' x v b → Reads s p t → LetReads s x v b p.shift t
-let-reads {p = p} f o e r = let w = at_row e r in let_row p.shift f (fields_at f o e) w.row w.is
+let_reads {p = p} f o e r = let w = at_row e r in let_row p.shift f (fields_at f o e) w.row w.is
 
 -- THE THREE RULES
 
 -- beta: the head reads as a lambda and the argument as a; the argument replaced into the body, with k the head's shift
-pub beta-reads : {s : Store} {head arg x b z : Ptr} {type body a : Tree} {g : Got} →
+pub beta_reads : {s : Store} {head arg x b z : Ptr} {type body a : Tree} {g : Got} →
     Formed s → Good s head → Good s arg → row_at s head.row ≡ node K.lam x b z → Reads s head (lam type body) → Reads s arg a →
     Replaces (some arg) head.shift 0 s b g → Replaced s g (subst a 0 body)
-beta-reads {s} {body = body} {a = a} {g = g} f o y e r q c =
-    let l = lam-reads f o e r in
+beta_reads {s} {body = body} {a = a} {g = g} f o y e r q c =
+    let l = lam_reads f o e r in
     let same : l.body ≡ body = cc l.is in
     along (λ (t : Tree). Replaced s g (subst a 0 t)) same (body_given f l.under y q c)
 
 -- let: its value, shifted with the head, into the body, same k
-pub zeta-reads : {s : Store} {head x v b : Ptr} {type value body : Tree} {g : Got} →
+pub zeta_reads : {s : Store} {head x v b : Ptr} {type value body : Tree} {g : Got} →
     Formed s → Good s head → row_at s head.row ≡ node K.let' x v b → Reads s head (let' type value body) →
     Replaces (some (up s v head.shift)) head.shift 0 s b g → Replaced s g (subst value 0 body)
-zeta-reads {s} {value = value} {body = body} {g = g} f o e r c =
-    let l = let-reads f o e r in
+zeta_reads {s} {value = value} {body = body} {g = g} f o e r c =
+    let l = let_reads f o e r in
     let same : l.body ≡ body = cc l.is in
     let same_value : l.value ≡ value = cc l.is in
     along (λ (t : Tree). Replaced s g (subst value 0 t)) same
     (along (λ (u : Tree). Replaced s g (subst u 0 l.body)) same_value (body_given f l.under l.good_value l.reads_value c))
 
 -- a context value of variable i, brought to where the variable stands
-pub value-reads : {s : Store} {v : Ptr} {value : Tree} (i : ℕ) → Formed s → Good s v → Reads s v value → Reads s (up s v (suc i)) (shift (suc i) 0 value)
-value-reads i f o r = reads_up (suc i) f o r
+pub value_reads : {s : Store} {v : Ptr} {value : Tree} (i : ℕ) → Formed s → Good s v → Reads s v value → Reads s (up s v (suc i)) (shift (suc i) 0 value)
+value_reads i f o r = reads_up (suc i) f o r

@@ -1,5 +1,5 @@
 -- What is believed stands in the crate rules. Here it is shown that replacement down the rows is textbook substitution: read
--- replace-none-reads and replace-some-reads at the end of Replacing.antt first, then beta-reads and zeta-reads in Heads.antt.
+-- replace_none_reads and replace_some_reads at the end of Replacing.antt first, then beta_reads and zeta_reads in Heads.antt.
 pub mod Places
 pub mod Trees
 pub mod TreeLaws

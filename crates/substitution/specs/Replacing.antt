@@ -187,11 +187,11 @@ mutual
 -- IN TEXTBOOK WORDS
 
 -- no value: what the pointer reads as, shifted by k from c on
-pub replace-none-reads : {k c : ℕ} {s : Store} {p : Ptr} {g : Got} {t : Tree} →
+pub replace_none_reads : {k c : ℕ} {s : Store} {p : Ptr} {g : Got} {t : Tree} →
     Formed s → Good s p → Reads s p t → Replaces none k c s p g → Replaced s g (shift k c t)
-replace-none-reads {k} {c} {s} {g = g} {t} f o r q = along (Replaced s g) (move-none k c t) (replace_moves f o no_value r q)
+replace_none_reads {k} {c} {s} {g = g} {t} f o r q = along (Replaced s g) (move-none k c t) (replace_moves f o no_value r q)
 
 -- one value: what is above c shifted by k, then the value, shifted past the c binders, substituted for index c
-pub replace-some-reads : {v : Ptr} {k c : ℕ} {s : Store} {p : Ptr} {g : Got} {t u : Tree} →
+pub replace_some_reads : {v : Ptr} {k c : ℕ} {s : Store} {p : Ptr} {g : Got} {t u : Tree} →
     Formed s → Good s p → Good s v → Reads s p t → Reads s v u → Replaces (some v) k c s p g → Replaced s g (subst (shift c 0 u) c (shift k (suc c) t))
-replace-some-reads {k = k} {c} {s} {g = g} {t} {u} f o y r a q = along (Replaced s g) (move_some u k c t) (replace_moves f o (a_value y a) r q)
+replace_some_reads {k = k} {c} {s} {g = g} {t} {u} f o y r a q = along (Replaced s g) (move_some u k c t) (replace_moves f o (a_value y a) r q)
