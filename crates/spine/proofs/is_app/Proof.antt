@@ -17,7 +17,7 @@ kind-of-requires : tie.Need-kind-of-requires
 kind-of-requires c κs = nine_read _ _ _ (search rules) _ c.row_at_lem.ensures
 
 returns : tie.Need-returns
-returns c = ap (λ (n : ℕ). eqb n 3) (c.the_kind.ensures ∙ ap (λ (ws : List ℕ). get_or ws 0 0) c.before.row_at_lem.ensures)
+returns c = ap (λ (n : ℕ). eqb n 3) (c.kind_of.ensures ∙ ap (λ (ws : List ℕ). get_or ws 0 0) c.before.row_at_lem.ensures)
 
 pub is_app_spec : {M : Type 1} → statement M
 is_app_spec = tie.close (tie.spec row-at-requires kind-of-requires returns)
