@@ -229,6 +229,10 @@ def atoms_from(nodes, at, count):
 
 # THE NAMES OF ONE FUNCTION
 
+# what a field of a step was called before
+OLDER = {"left": "false", "taken": "true", "inv": "invariant"}
+
+
 
 class Names:
     def __init__(self, v):
@@ -283,6 +287,8 @@ class Names:
     def field(self, place, path):
         """The new path of an old one, without `.before`; None where it is not known."""
         first, rest = path[0], path[1:]
+        rest = [OLDER.get(rest[0], rest[0])] + rest[1:] if rest else rest
+        path = [first] + rest
         v = self.v
         for old, new in v["args"]:
             old, new = old.replace(" ", "").strip(".").split("."), new.replace(" ", "").strip(".").split(".")
@@ -525,7 +531,7 @@ class Answer:
                 at = j + 1
                 continue
             head, *path = node.split(".")
-            if node.endswith("."):
+            if node.endswith(".") or labels(nodes, at):
                 out.append(node)
                 at += 1
                 continue
@@ -589,6 +595,16 @@ class Answer:
         kind = self.rewrite(nodes[at + 1 : equals], {k: w for k, w in env.items() if not left or k != left[0]})
         inner = {k: w for k, w in env.items() if not left or k != left[0]}
         return "let" + kind + "=" + bound + "in", end + 1, inner
+
+
+def labels(nodes, at):
+    """Whether a word is a field's name in a record that is written out: alone before `=`, after the bracket or a semicolon."""
+    before, after = at - 1, at + 1
+    while before >= 0 and blank(nodes[before]):
+        before -= 1
+    while after < len(nodes) and blank(nodes[after]):
+        after += 1
+    return after < len(nodes) and nodes[after] == "=" and (before < 0 or nodes[before] == ";")
 
 
 class Defs(dict):

@@ -1,5 +1,7 @@
 // The seven operations on numbers of two words, against plain arithmetic on numbers of any size (the rules' Arithmetic).
 // A result over 2^64 - 1 is the document's refusal 7. Nothing here is wider than 64 bits: a product is made from halves.
+#![tactic(auto)]
+
 ghost use Rattle.std.specs.Prelude.{◌≡◌, ◌+◌, ◌*◌, ◌-◌};
 ghost use Rattle.rules.specs.Arithmetic.{number, quotient, remainder};
 ghost use Rattle.rules.specs.Arithmetic.{compute as rules_compute};

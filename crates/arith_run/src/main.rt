@@ -1,5 +1,7 @@
 // Runs each of the seven operations at every pair of six values: the ends of one word and of two, and 2^63.
 // The file stdout has what integers of any size give there: answers.py makes it, without this program.
+#![tactic(auto)]
+
 use arith::{Op, Outcome};
 use libc::STDOUT_FILENO;
 

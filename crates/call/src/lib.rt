@@ -1,4 +1,6 @@
 // The exported call `whnf`: acceptance first, then the reduction; after a refusal from 4 on the rows are given back, zeroed.
+#![tactic(auto)]
+
 ghost use Rattle.std.specs.Prelude.{◌≡◌, ◌*◌, ◌≤◌, length};
 ghost use Rattle.rules.specs.Maxima.{most_rows, most_declarations};
 ghost use Rattle.call.specs.Answers.{Answers, AcceptedAs, zeroed_from, GivenBy};

@@ -1,1 +1,2 @@
 // Definitions and proofs only: the rules as a computation, in specs/. There is no code here.
+#![tactic(auto)]

@@ -1,4 +1,6 @@
 // What a rule takes from a reduced term: a constructor's field, Quot.mk's element.
+#![tactic(auto)]
+
 ghost use Rattle.fields.specs.Fields.{Reduced, ConstantAt, FieldAt, QuotMade};
 
 use rows::{Ptr, row_at, shape_of};

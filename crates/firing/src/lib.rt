@@ -1,5 +1,7 @@
 // Firings that ask for no side reduction: a pointer that stands already, with the remaining arguments applied to it; a value replaced into a body.
 // 4 comes first, then each row in turn.
+#![tactic(auto)]
+
 ghost use Rattle.std.specs.Prelude.{◌≡◌, ◌+◌, ◌/◌, ◌<◌, ◌≤◌, ◌∷◌, length, drop};
 ghost use Rattle.std.proofs.Math.Option.{some};
 ghost use Rattle.rules.specs.Firings.{itself, opened};

@@ -1,4 +1,6 @@
 // A reduced major: as a number, as a constructor; what arithmetic gives, written; the rule of a recursor that fires.
+#![tactic(auto)]
+
 ghost use Rattle.std.specs.Prelude.{◌≡◌, ◌+◌, ◌/◌, ◌-◌, ◌<◌, ◌≤◌, length, get_or};
 ghost use Rattle.rules.specs.Declarations.{op_code};
 ghost use Rattle.rules.specs.HeadTests.{number_made};

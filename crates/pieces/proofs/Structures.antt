@@ -135,14 +135,14 @@ module _ (l ds rs cs sc : List ℕ) (g : Given) (m : Meter) (ready : Ready (here
   none_there : (n : ℕ) → ((ps i : ℕ) → IsStructure (env_at h) c head_row ps i → ⊥) →
       Gives (StructureIn g.depth) n h (λ next. structure_ask (ptr_of t) c next s) (refused 9) cs sc
   none_there n f =
-      piece_stops refl (λ next. record { is = sym (structure_comes n next ∙ on_none _ (structure_view (env_at h) c head_row) f); keeps = nothing_keeps h })
+      piece_stops refl (λ next. record { is = sym (structure_comes n next ∙ on_none (λ ps C. res_at n h (next s (with_parts ps C))) (structure_view (env_at h) c head_row) f); keeps = nothing_keeps h })
       (nothing_keeps h)
 
   one_there : (n ps i : ℕ) → IsStructure (env_at h) c head_row ps i →
       Gives (StructureIn g.depth) n h (λ next. structure_ask (ptr_of t) c next s) (gave (with_parts ps (decl_at (env_at h).decls i)) m) cs sc
   one_there n ps i is =
       piece_gives refl
-      (λ next. record { is = sym (structure_comes n next ∙ on_one _ (structure_view (env_at h) c head_row) ps i is); after = nothing_after ready })
+      (λ next. record { is = sym (structure_comes n next ∙ on_one (λ ps' C. res_at n h (next s (with_parts ps' C))) (structure_view (env_at h) c head_row) ps i is); after = nothing_after ready })
       (nothing_after ready)
       (record {
         type = ready.typed.type i (ready.typed.constructor c ps i is.form);

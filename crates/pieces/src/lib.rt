@@ -1,5 +1,7 @@
 // The pieces of inference that ask for the type of no part: rows made, bodies opened, reductions to a sort or to a pi, the forms without parts,
 // the structure that a type names, and the walk through its parameters.
+#![tactic(auto)]
+
 ghost use Rattle.std.specs.Prelude.{◌≡◌, suc, ◌+◌, ◌/◌, ◌≤◌, ◌<◌, length};
 ghost use Rattle.rules.specs.Maxima.{most_level};
 ghost use Rattle.course.specs.Charged.{put_in, replace_in};

@@ -1,5 +1,7 @@
 // The read-out of a term as text, all shifts carried out. It goes into a lent buffer and stops where that is full: a term whose rows are
 // shared may take any number of bytes, and no more time is spent on it than the buffer has room for.
+#![tactic(auto)]
+
 ghost use Rattle.std.specs.Prelude.{◌≡◌, ◌+◌, ◌*◌, ◌-◌, ◌≤◌, ◌<◌, leb, length};
 ghost use Rattle.readout.specs.Places.{raised, carried_by, Whole, Room, RoomBelow};
 

@@ -1,4 +1,6 @@
 // What inference reads and writes in the words: types of declarations and variables, a record pushed and the spare ones cleared, a sort or a pi.
+#![tactic(auto)]
+
 ghost use Rattle.std.specs.Prelude.{◌≡◌, ◌++◌, suc, ◌+◌, ◌*◌, ◌-◌, ◌≤◌, length, drop};
 ghost use Rattle.rules.specs.Accepted.{part};
 ghost use Rattle.rows.specs.Words.{shape_at, words_at, Stands};

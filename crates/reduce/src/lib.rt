@@ -1,5 +1,7 @@
 // Head reduction: the cycle. `whnf` loops over firings; `at_head` finds the head and tries the rules in the document's order; each
 // rule's side reductions go through `side`, the one place where the remaining nesting falls.
+#![tactic(auto)]
+
 ghost use Rattle.std.specs.Prelude.{◌≡◌, suc, ◌/◌, ◌<◌, length};
 ghost use Rattle.rules.specs.RowCheck.{InScope};
 ghost use Rattle.rows.specs.Words.{ptr_of, store_of};

@@ -3,7 +3,7 @@
 use Prim.Native.Nat.{ℕ, ◌≤◌}
 use native.Mathlib.Omega.{arith}
 use mathlib.Core.Path.{◌≡◌, refl, sym, ◌∙◌, subst}
-use mathlib.Core.Option.{Option, some}
+use mathlib.Core.Option.{Option, none, some}
 use lib.ListN.{length}
 use Rattle.rules.specs.Rows.{Ptr, Cell, Store, cell_at, Got}
 use Rattle.rules.specs.RowCheck.{AllPass}
@@ -54,6 +54,7 @@ module _ (D : ℕ) (v : Option Ptr) (k c : ℕ) (s : Store) (p : Ptr) (most f : 
   settles = go (replace_by v k f c s p) refl ((reaches v k f).at c s p (pass_formed pass) good value high) (replace_says v k f c s p)
     where
       go : (r : Option Got) → replace_by v k f c s p ≡ r → Found r → All (Replaces v k c s p) r → Settled
+      go none e x y = elim x [ ]
       go (some g) e found (just q) = record {
         due = g;
         replaces = q;

@@ -1,4 +1,6 @@
 // Replacement down the rows: at cutoff c, with one value or none and a move. Recursive over children in field order, with the recorded height falling.
+#![tactic(auto)]
+
 ghost use Rattle.replace.specs.Replaced.{IndexReady, FieldReady, RowReady, PtrReady, IndexDone, FieldDone, RowDone, Replaced};
 
 use rows::kinds::field_tag;

@@ -1,5 +1,7 @@
 // Runs replacement at cases whose answers were worked out from the paper: the file stdout has what answers.py makes of them, without this program.
 // Whatever the contracts require is tested first, since the rows are data; no case is refused for that.
+#![tactic(auto)]
+
 ghost use Rattle.std.specs.Prelude.{◌≡◌, true};
 ghost use Rattle.substitution.specs.Stores.{Good};
 ghost use Rattle.rows.specs.Words.{ptr_of, store_of, Held};

@@ -1,5 +1,7 @@
 // Rows of nine words in two lent slices, library and scratch: pointers, row lookup, and the readers of a looked-up part.
 // Scratch rows are numbered after library rows; a row is read where it stands.
+#![tactic(auto)]
+
 ghost use Rattle.std.specs.Prelude.{◌≡◌, ◌+◌, ◌<◌, length, get_or};
 ghost use Rattle.rules.specs.Rows.{bound, up};
 ghost use Rattle.rows.specs.Words.{ptr_of, pair_at, shape_at, words_at, whole, Stands};

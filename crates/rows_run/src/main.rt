@@ -1,5 +1,7 @@
 // Runs the row check, the row writer, pointer bounds and shifting on a small table, changed one word at a time.
 // The file stdout has what document 01 says of each case: answers.py makes it, without this program.
+#![tactic(auto)]
+
 use libc::STDOUT_FILENO;
 use rows::row_check::Checked;
 use rows::{Out, Ptr, Shape};

@@ -1,5 +1,7 @@
 // Reads the text of a run from standard input, or from the file that its argument names, makes the calls, and writes the answers. The
 // first line that is wrong is answered by one line with its number, and ends the run.
+#![tactic(auto)]
+
 use kept::{Kept, fresh};
 use libc::STDIN_FILENO;
 use statements::{finish_line, take_token};

@@ -1,5 +1,7 @@
 // Spines: the head and the count of arguments, the argument at a position, a term applied to a run of another spine's arguments.
 // No list of arguments is kept: the rows are walked again.
+#![tactic(auto)]
+
 ghost use Rattle.std.specs.Prelude.{◌≡◌, ◌+◌, ◌*◌, ◌/◌, ◌<◌, ◌≤◌, true, length, get_or, eqb};
 ghost use Rattle.rules.specs.Kinds.{app};
 ghost use Rattle.rules.specs.Rows.{blank, node, up};

@@ -1,5 +1,7 @@
 // Runs the walks along spines and a term applied to a run of arguments, on a small table and on a tower of applications.
 // The file stdout has what document 01 says of each case: answers.py makes it, without this program.
+#![tactic(auto)]
+
 ghost use Rattle.std.specs.Prelude.{length, ◌≤◌, ◌≡◌};
 ghost use Rattle.rows.specs.Words.{Held};
 ghost use Rattle.spine_run.specs.Ready.{Ready, Shows};

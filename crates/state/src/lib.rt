@@ -1,4 +1,6 @@
 // The state of a reduction: what stays the same in a call, what is used up, and the answers. By value, in and out.
+#![tactic(auto)]
+
 use rows::Ptr;
 
 // What stays the same in a call: library rows, depth, the budget of steps, and the declaration that holds each role, by the role's code

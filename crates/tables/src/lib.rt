@@ -1,4 +1,6 @@
 // Declarations, recursor rules, roles and the context, read by value from the lent words where they stand.
+#![tactic(auto)]
+
 ghost use Rattle.std.specs.Prelude.{◌≡◌, suc, ◌+◌, ◌*◌, ◌-◌, ◌≤◌, ◌<◌, length, take, drop};
 ghost use Rattle.rules.specs.Accepted.{part};
 ghost use Rattle.rules.specs.HeadTests.{rule_for};

@@ -1,5 +1,7 @@
 // Runs acceptance on a small table, changed one word, one length or one number at a time, and on tables at their maxima.
 // The file stdout has what document 01 and the format say of each case: answers.py makes it, without this program.
+#![tactic(auto)]
+
 use libc::STDOUT_FILENO;
 use rows::Ptr;
 use tables::accept::Verdict;

@@ -1,5 +1,7 @@
 // The text of a run, byte by byte: words, decimal numbers, ends of lines; `#` starts a comment. What is under way is a value that goes
 // in and comes back, so that the text may come in pieces of any size.
+#![tactic(auto)]
+
 ghost use Rattle.std.specs.Prelude.{◌≡◌, true};
 ghost use Rattle.text.specs.Feeding.{is_letter, is_digit, is_blank, with_digit, with_letter, next_line, going_on, line_ended};
 ghost use Rattle.text.specs.Feeding.{in_number, in_word, in_gap, in_comment, fed};

@@ -151,6 +151,7 @@ module _ (n : ℕ) (h : Here) (ready : Ready h) (In : Store → rules.Ptr → Ty
   opening_gives {r} {sc} w = go (replace_by v k height c here_store b) refl ((reaches v k height).at c here_store b (pass_formed ready.stand.sane.pass) good value (le_refl _))
     where
       go : (x : Option Got) → replace_by v k height c here_store b ≡ x → Found x → Gives In n h (opens v k c b) (outcome_of r) h.context sc
+      go none e there = elim there [ ]
       go (some g) e there =
           let settles : replace_in (limits_at h).rows v k height c here_store b ≡ settle_on g (charge (limits_at h) here_store g.store) =
           replace_in_lem (limits_at h) v k height c here_store b e in
