@@ -1,0 +1,12 @@
+-- `records::type_of` meets its contract: no record, or the type of the record that the rules name.
+-- Assumes nothing.
+use mathlib.Core.Path.{ap, ◌∙◌}
+use Rattle.rules.specs.Accepted.{part}
+use Rattle.records.proofs.Types.{no_context, in_record}
+use Rattle.records.proofs.type_of.Goals as goal
+
+pub returns-then-depth-eq0 : goal.returns-then-depth-eq0
+returns-then-depth-eq0 c = no_context _ _ _ c.if-depth-eq0.true
+
+pub returns : goal.returns
+returns c = in_record _ _ _ c.if-depth-eq0.false _ (c.words_at-w.ensures.words ∙ ap (part 5 _) c.record_of.ensures)
