@@ -20,8 +20,10 @@ import tempfile
 
 PLACE = re.compile(r"\(?(?:tie|[\w-]+-lts)\.(?:Start|Untold|After-|Then\d|Else\d|At-|In-)")
 NEED = re.compile(r"(?:\((\w+) : \S+\)\s*→\s*)?(?:tie|[\w-]+-lts)\.Need-(\S+)")
+INVARIANT = re.compile(r"(tie|[\w-]+-lts)\.(invariant|decreases)-(\S+)")
 OPEN, CLOSE = "([{", ")]}"
 PREFIXES = ("overflow", "nonzero")
+WORDS = {"taken": "true", "left": "false", "inv": "invariant"}  # older spellings
 
 
 def plain(name):
@@ -229,10 +231,6 @@ def atoms_from(nodes, at, count):
 
 # THE NAMES OF ONE FUNCTION
 
-# what a field of a step was called before
-OLDER = {"left": "false", "taken": "true", "inv": "invariant"}
-
-
 
 class Names:
     def __init__(self, v):
@@ -287,8 +285,6 @@ class Names:
     def field(self, place, path):
         """The new path of an old one, without `.before`; None where it is not known."""
         first, rest = path[0], path[1:]
-        rest = [OLDER.get(rest[0], rest[0])] + rest[1:] if rest else rest
-        path = [first] + rest
         v = self.v
         for old, new in v["args"]:
             old, new = old.replace(" ", "").strip(".").split("."), new.replace(" ", "").strip(".").split(".")
@@ -317,6 +313,7 @@ class Names:
                     return [arm[0], best[0]] + rest[len(best[1]) :]
             old, new = v["places"][i][2]
             if old and plain(old) == self.step(first):
+                rest = [WORDS.get(x, x) if j == 0 else x for j, x in enumerate(rest)]
                 renamed = dict(v["places"][i][4])
                 rest = [renamed.get(x, x) if j == 0 else x for j, x in enumerate(rest)]
                 callee = v["places"][i][3]
@@ -410,6 +407,26 @@ class Answer:
             return len(nodes) == 1
         got = atoms_from(nodes, 1, count)
         return got is not None and not strip(nodes[got[1] :])
+
+    def path_of(self, nodes, env):
+        """The path of a term that is only a field of a place, or None."""
+        nodes = strip(nodes)
+        if not nodes or any(blank(it) for it in nodes):
+            return None
+        if isinstance(nodes[0], list):
+            if len(nodes) == 2 and isinstance(nodes[1], str) and nodes[1].startswith(".") and self.is_place(nodes[:1], env):
+                return nodes[1].strip(".").split(".")
+            if len(nodes) == 1 and nodes[0][0] == "(":
+                return self.path_of(nodes[0][1:-1], env)
+            return None
+        name, *path = nodes[0].split(".")
+        if len(nodes) != 1 or not path:
+            return None
+        if env.get(name) == "place":
+            return path
+        if isinstance(env.get(name), tuple):
+            return list(env[name]) + path
+        return None
 
     def chain(self, path, whole):
         path = [p for p in path if p != "before"]
@@ -531,12 +548,17 @@ class Answer:
                 at = j + 1
                 continue
             head, *path = node.split(".")
-            if node.endswith(".") or labels(nodes, at):
+            ahead = strip(nodes[at + 1 : at + 3])
+            if node.endswith(".") or ahead[:1] == ["="]:  # a binder, or a field of a record
                 out.append(node)
                 at += 1
                 continue
             if head in env and env[head] == "place":
                 out.append(self.chain(path, node))
+                at += 1
+                continue
+            if head in env and isinstance(env[head], tuple):
+                out.append(self.chain(list(env[head]) + path, node))
                 at += 1
                 continue
             if head in env and isinstance(env[head], str):
@@ -591,20 +613,20 @@ class Answer:
             while end < len(nodes) and blank(nodes[end]):
                 end += 1
             return "", end, inner
+        path = self.path_of(nodes[equals + 1 : end], env)
+        if len(left) == 1 and isinstance(left[0], str) and path:
+            inner = dict(env)
+            inner[left[0]] = tuple(path)
+            bare = re.search(rf"(?<![\w.]){re.escape(left[0])}(?![\w.'-])", show(nodes[end + 1 :]))
+            if not bare:  # a name for a step, not for a fact that a tactic may look for
+                end += 1
+                while end < len(nodes) and blank(nodes[end]):
+                    end += 1
+                return "", end, inner
         bound = self.rewrite(nodes[equals + 1 : end], env)
         kind = self.rewrite(nodes[at + 1 : equals], {k: w for k, w in env.items() if not left or k != left[0]})
         inner = {k: w for k, w in env.items() if not left or k != left[0]}
         return "let" + kind + "=" + bound + "in", end + 1, inner
-
-
-def labels(nodes, at):
-    """Whether a word is a field's name in a record that is written out: alone before `=`, after the bracket or a semicolon."""
-    before, after = at - 1, at + 1
-    while before >= 0 and blank(nodes[before]):
-        before -= 1
-    while after < len(nodes) and blank(nodes[after]):
-        after += 1
-    return after < len(nodes) and nodes[after] == "=" and (before < 0 or nodes[before] == ";")
 
 
 class Defs(dict):
@@ -702,8 +724,12 @@ def kinds(defs):
         it.kind = "other"
         if NEED.match(it.type):
             it.kind = "goal"
-        elif re.match(r"tie\.invariant|tie\.decreases", it.type):
+        elif INVARIANT.match(it.type):
             it.kind = "invariant"
+        elif it.type.startswith("Measures "):
+            it.kind = "measure"
+        elif re.search(r"\bIn \d|\.Claims\b", it.type):
+            it.kind = "spec"
         elif "statement M" in it.type:
             it.kind = "spec"
         elif it.name in table.aliases:
@@ -719,9 +745,9 @@ def kinds(defs):
 
 def invariant(it, names):
     """An invariant or a measure: its arguments by position, as fields of `l`."""
-    m = re.match(r"tie\.(invariant|decreases)-(\S+)", it.type)
+    m = INVARIANT.match(it.type)
     for ((old, new), variables), changed in zip(names.v["loops"], names.v["changed"]):
-        if plain(old) == plain(m[2]):
+        if plain(old) == plain(m[3]):
             break
     else:
         return None
@@ -740,7 +766,7 @@ def invariant(it, names):
             elif p in words(body.replace(",", " ")):
                 note = f"-- TODO: today there is no {p}\n"
     text = Answer(names, Defs(), None, "l").rewrite(tree(body), env)
-    name = f"{m[1]}-{new}"
+    name = f"{m[2]}-{names.v.get('stem', '')}{new}"
     lines = "".join(c + "\n" for c in it.comment)
     unfolding = f"unfolding {' '.join(it.unfolds)}\n" if it.unfolds else ""
     return f"{lines}{note}abbrev pub {name} : goal.{name}\n{unfolding}{name} l = {' '.join(text.split())}\n"
@@ -782,7 +808,78 @@ def answer(it, names, table, member=""):
     return out, made.left
 
 
+def measure(it, member, listed):
+    """The measure of a cycle's member: `a.1.1.0` is its third argument, which today is `l` under its name."""
+    params = next((v["params"][f] for v in listed.values() if isinstance(v, dict) for f in v.get("params", {}) if plain(f.split("::")[-1]) == plain(member)), [])
+    (*_, base), body = it.clauses[0]
+    lost = []
+
+    def by_name(m):
+        index = m[1].count("1")
+        if index >= len(params):
+            lost.append(m[0])
+            return m[0]
+        return f"l.{params[index]}"
+
+    text = re.sub(rf"(?<![\w.]){base}\.((?:1\.)*0)(?![\w])", by_name, body)
+    name = f"decreases-{member}"
+    note = "".join(f"-- TODO: which argument is {x}\n" for x in lost)
+    lines = "".join(c + "\n" for c in it.comment)
+    return f"{lines}{note}abbrev pub {name} : goal.{name}\n{name} l = {' '.join(text.split())}\n", lost
+
+
+def turn_cycle(crate, path, folder, listed):
+    """A cycle's folder: Proof.antt, which may have a file for each member below Proof/."""
+    stem = f"Rattle-{crate}-proofs.{path.replace('/', '.')}.Lts-"
+    members = {plain(k[len(stem) :]): k[len(stem) :] for k in listed if k.startswith(stem)}
+    files = [f"{folder}/Proof.antt"]
+    if os.path.isdir(f"{folder}/Proof"):
+        files += sorted(f"{folder}/Proof/{it}" for it in os.listdir(f"{folder}/Proof") if it.endswith(".antt"))
+    head, uses, answers, invariants, left = [], [], [], [], []
+    for file in files:
+        with open(file) as f:
+            text = f.read()
+        above, more, defs = parse(text)
+        head += above
+        uses += [it for it in more if it not in uses]
+        table = kinds(defs)
+        known = {}
+        others = []
+        for it in defs:
+            if it.kind == "measure":
+                member = members.get(plain(it.name.lstrip("μ-")))
+                out, lost = measure(it, member, listed)
+                invariants.append(out)
+                left += lost
+            elif it.kind in ("goal", "invariant"):
+                m = re.search(r"([\w-]+)-lts\.", it.type)
+                member = members[plain(m[1])]
+                if member not in known:
+                    known[member] = Names(listed[stem + member])
+                    known[member].counted(text)
+                if it.kind == "invariant":
+                    invariants.append(invariant(it, known[member]) or "")
+                    continue
+                out, lost = answer(it, known[member], table)
+                left += lost
+                if out:
+                    answers.append(out)
+            elif it.kind == "other":
+                others.append("\n".join(it.comment + [it.raw]) + "\n")
+        answers[:0] = others
+    module = f"Rattle.{crate}.proofs.{path.replace('/', '.')}"
+    write(folder, "Answers", head, uses, answers, f"use {module}.Goals as goal")
+    write(folder, "Invariants", [], uses, invariants, f"use {module}.Given as goal")
+    for file in files:
+        os.remove(file)
+    if os.path.isdir(f"{folder}/Proof") and not os.listdir(f"{folder}/Proof"):
+        os.rmdir(f"{folder}/Proof")
+    return left
+
+
 def turn(crate, path, folder, listed):
+    if os.path.basename(folder).startswith("+"):
+        return turn_cycle(crate, path, folder, listed)
     with open(f"{folder}/Proof.antt") as f:
         text = f.read()
     key = f"Rattle-{crate}-proofs.{path.replace('/', '.')}.Lts"
@@ -836,7 +933,7 @@ def main():
             sys.exit(done.stdout + done.stderr)
         with open(f"{to}/names.json") as f:
             listed = json.load(f)
-    for folder, _, files in sorted(os.walk(proofs)):
+    for folder, _, files in sorted(os.walk(proofs), key=lambda it: it[0]):
         if "Proof.antt" not in files:
             continue
         path = os.path.relpath(folder, proofs)

@@ -1,5 +1,6 @@
 -- `majors::number_made` meets its contract: zero where the number is 0, else succ of the number below; nothing where that role is not held.
 -- Assumes nothing.
+use Prim.Native.Nat.{◌-◌}
 use native.Mathlib.Omega.{arith}
 use mathlib.Core.Path.{refl, sym, ap, ◌∙◌}
 use Rattle.arith.specs.Meaning.{value_of}
@@ -21,5 +22,5 @@ returns-then-succ c = succ_nothing _ _ _ _ c.requires _ (λ q. c.if-v-eq0.false 
 pub returns : goal.returns
 returns c =
     rw c.made_from-2.ensures
-    (succ_made_by _ _ _ _ c.requires _ (λ q. c.if-v-eq0.false (c.value-v.ensures ∙ q)) (omega (arith, c.value-v.ensures, c.value-v.type-inv)) _ refl c.if-succ.false _
+    (succ_made_by _ _ _ _ c.requires _ (λ q. c.if-v-eq0.false (c.value-v.ensures ∙ q)) (omega (arith, c.value-v.ensures, c.value-v.type_inv)) _ refl c.if-succ.false _
     (ap value_of c.number_of.ensures ∙ value_of_words _ ∙ ap (◌- 1) c.value-v.ensures) _ _ c.write_succ-out.ensures)
