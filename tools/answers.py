@@ -340,13 +340,13 @@ class Names:
 
     def requires(self, rest):
         pre = self.v.get("pre")
-        if not pre:
-            return ["requires"] + rest
-        if self.v.get("stem"):  # in a cycle the measure comes first
+        fields = pre["fields"] if pre else None
+        if self.v.get("stem"):  # in a cycle the measure came first
+            if rest[:1] == ["0"]:
+                return ["decreases"] + rest[1:]
             if rest[:1] == ["1"]:
-                return ["requires", "1"] + by_field(pre["fields"], rest[1:])
-            return ["requires"] + rest
-        return ["requires"] + by_field(pre["fields"], rest)
+                rest = rest[1:]
+        return ["requires"] + (by_field(fields, rest) if fields else rest)
 
 
 def by_field(fields, path):
