@@ -29,7 +29,7 @@ WORDS = {"taken": "true", "left": "false", "inv": "invariant"}  # older spelling
 def plain(name):
     """A name without its dashes and underscores, which the two spellings differ in."""
     name = re.sub(r"[_-]lem$", "", name)
-    return re.sub(r"[-_]", "", name)
+    return re.sub(r"[-_«»]", "", name)
 
 
 # READING
@@ -339,13 +339,13 @@ class Names:
         return [word] + path[1:]
 
     def requires(self, rest):
-        pre = self.v.get("pre")
-        fields = pre["fields"] if pre else None
-        if self.v.get("stem"):  # in a cycle the measure came first
-            if rest[:1] == ["0"]:
+        fields = (self.v.get("pre") or {}).get("fields")
+        if self.v.get("stem"):  # in a cycle the old fact was a pair, of the measure's and the clauses
+            if not rest:
+                return [("pairs", ["decreases", "requires"])]
+            if rest[0] == "0":
                 return ["decreases"] + rest[1:]
-            if rest[:1] == ["1"]:
-                rest = rest[1:]
+            rest = rest[1:]
         return ["requires"] + (by_field(fields, rest) if fields else rest)
 
 

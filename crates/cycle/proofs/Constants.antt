@@ -5,7 +5,7 @@ use mathlib.Core.Path.{◌≡◌, refl, sym, ap, ◌∙◌}
 use mathlib.Core.List.{List}
 use Rattle.rules.specs.Declarations.{Env}
 use Rattle.rules.specs.Refusals.{Limits}
-use Rattle.course.specs.Tries.{Try, ◌or-else◌}
+use Rattle.course.specs.Tries.{Try, ◌or_else◌}
 use Rattle.course.specs.Eval.{Ans, missed, firing, refuse, gone, try, side_at}
 use Rattle.substitution.specs.Stores.{scope_good}
 use Rattle.substitution.specs.Passing.{pass_formed}

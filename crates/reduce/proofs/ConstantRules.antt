@@ -4,12 +4,11 @@ use Prim.Native.Nat.{ℕ, ◌+◌, ◌/◌, ◌<◌}
 use mathlib.Core.Path.{◌≡◌, sym, ap, ◌∙◌, subst}
 use mathlib.Core.List.{List, [], ◌∷◌}
 use lib.ListN.{length}
-use types.Run.{OneOf}
 use denote.Enum.Declared.{tag_of}
 use Rattle.rules.specs.Rows as rules
 use Rattle.rules.specs.Accepted.{part}
 use Rattle.rules.specs.Declarations.{Decl, Env, decl_at}
-use Rattle.course.specs.Tries.{Try, ◌or-else◌, quot, recursion, arithmetic, delta, constant}
+use Rattle.course.specs.Tries.{Try, ◌or_else◌, quot, recursion, arithmetic, delta, constant}
 use Rattle.safety.specs.Safe.{safe_quot, safe_recursion, safe_arithmetic}
 use Rattle.ways.specs.Spines.{args_of}
 use Rattle.rows.specs.declared.Ptr.{Ptr}
@@ -62,7 +61,7 @@ quotients_first {ds = ds} {rs} {cs} {g = g} n d levels c = begins n (from_quotie
 module _ (d levels : ℕ) {l ds rs cs sc : List ℕ} {g : Given} {m : Meter} {t : Ptr} {count n : ℕ} {sc₁ : List ℕ} {m₁ : Meter} {r : Answer} {sc₂ : List ℕ} where
   -- QUOTIENTS
   module _ (p : At l ds rs cs sc g m t count n d levels sc₁ m₁ from_quotients) (k : Left l sc₁ m₁ r sc₂ (quotient l ds rs cs sc₁ g m₁ t n d)) where
-    pub quotients_answer : OneOf (0 ∷ 2 ∷ []) (tag_of the_type r) → Left l sc m r sc₂ (constantly l ds rs cs sc g m t n d levels)
+    pub quotients_answer : ((m₂ : Meter) → r ≡ Final m₂ → ⊥) → Left l sc m r sc₂ (constantly l ds rs cs sc g m t n d levels)
     quotients_answer = answers (quot _ _) (from_recursion _ d levels) p k
 
     pub recursion_next : {m₂ : Meter} → r ≡ Final m₂ → At l ds rs cs sc g m t count n d levels sc₂ m₂ from_recursion
@@ -70,7 +69,7 @@ module _ (d levels : ℕ) {l ds rs cs sc : List ℕ} {g : Given} {m : Meter} {t 
 
   -- RECURSORS
   module _ (p : At l ds rs cs sc g m t count n d levels sc₁ m₁ from_recursion) (k : Left l sc₁ m₁ r sc₂ (recursed l ds rs cs sc₁ g m₁ t n d levels)) where
-    pub recursion_answers : OneOf (0 ∷ 2 ∷ []) (tag_of the_type r) → Left l sc m r sc₂ (constantly l ds rs cs sc g m t n d levels)
+    pub recursion_answers : ((m₂ : Meter) → r ≡ Final m₂ → ⊥) → Left l sc m r sc₂ (constantly l ds rs cs sc g m t n d levels)
     recursion_answers = answers (recursion _ _ levels) (from_arithmetic _ d levels) p k
 
     pub arithmetic_next : {m₂ : Meter} → r ≡ Final m₂ → At l ds rs cs sc g m t count n d levels sc₂ m₂ from_arithmetic
@@ -78,7 +77,7 @@ module _ (d levels : ℕ) {l ds rs cs sc : List ℕ} {g : Given} {m : Meter} {t 
 
   -- ARITHMETIC
   module _ (p : At l ds rs cs sc g m t count n d levels sc₁ m₁ from_arithmetic) (k : Left l sc₁ m₁ r sc₂ (computed l ds rs cs sc₁ g m₁ t n d)) where
-    pub arithmetic_answers : OneOf (0 ∷ 2 ∷ []) (tag_of the_type r) → Left l sc m r sc₂ (constantly l ds rs cs sc g m t n d levels)
+    pub arithmetic_answers : ((m₂ : Meter) → r ≡ Final m₂ → ⊥) → Left l sc m r sc₂ (constantly l ds rs cs sc g m t n d levels)
     arithmetic_answers = answers (arithmetic _ _) (by_delta (env_of ds rs cs g.depth) d levels) p k
 
     pub delta_last : {m₂ : Meter} → r ≡ Final m₂ → At l ds rs cs sc g m t count n d levels sc₂ m₂ by_delta

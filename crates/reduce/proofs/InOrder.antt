@@ -1,15 +1,12 @@
 -- The rules of a constant in order: a place in the course of trying them, where those before have missed, and its two ways on: to the answer of the
 -- rule that is tried there, or past it to the next. Assumes what `constant` is given.
 use Prim.Native.Nat.{ℕ}
-use native.Mathlib.Omega.{arith}
-use mathlib.Core.Path.{◌≡◌, ap}
-use mathlib.Core.Logic.{⊎_elim}
+use mathlib.Core.Path.{◌≡◌, refl, ap}
 use mathlib.Core.List.{List, [], ◌∷◌}
-use types.Run.{OneOf}
 use denote.Enum.Declared.{tag_of}
 use Rattle.rules.specs.Rows as rules
 use Rattle.rules.specs.Declarations.{Env}
-use Rattle.course.specs.Tries.{Try, ◌or-else◌}
+use Rattle.course.specs.Tries.{Try, ◌or_else◌}
 use Rattle.safety.specs.Sane.{depth_of, decl_count}
 use Rattle.safety.specs.Safe.{Safe}
 use Rattle.ways.specs.Steps.{Step}
@@ -61,11 +58,11 @@ module _ {l ds rs cs sc : List ℕ} {g : Given} {m : Meter} {t : Ptr} {count n :
         }
 
     -- it does not miss, and its answer is the call's
-    pub answers : OneOf (0 ∷ 2 ∷ []) (tag_of the_type r) → Left l sc m r sc₂ whole
+    pub answers : ((m₂ : Meter) → r ≡ Final m₂ → ⊥) → Left l sc m r sc₂ whole
     answers other = p.through r sc₂ (on r first other)
       where
-        on : (a : Answer) → Left l sc₁ m₁ a sc₂ (tried e l g n sc₁ m₁ (y xs)) → OneOf (0 ∷ 2 ∷ []) (tag_of the_type a) →
+        on : (a : Answer) → Left l sc₁ m₁ a sc₂ (tried e l g n sc₁ m₁ (y xs)) → ((m₂ : Meter) → a ≡ Final m₂ → ⊥) →
             Left l sc₁ m₁ a sc₂ (tried e l g n sc₁ m₁ (y xs or_else z xs))
         on (Term q m₂) k h = else_fires e l g n sc₁ m₁ (y xs) (z xs) k
-        on (Final m₂) k h = absurd (⊎_elim (λ q. omega arith) (λ q. omega arith) h)
+        on (Final m₂) k h = absurd (h m₂ refl)
         on (Refused j) k h = else_stops e l g n sc₁ m₁ (y xs) (z xs) k
