@@ -53,7 +53,7 @@ def main(argv):
     top = folders[0] if folders else os.path.dirname(HERE)
     everywhere, scoped = table()
     for folder, dirs, files in os.walk(os.path.join(top, "crates")):
-        dirs[:] = sorted(d for d in dirs if d != "out")
+        dirs[:] = sorted(d for d in dirs if d != "out" or os.path.basename(folder) == "proofs")
         for name in sorted(files):
             path = os.path.join(folder, name)
             if not name.endswith((".antt", ".rt") + ((".edit",) if edits else ())):

@@ -3,7 +3,7 @@
 use native.Mathlib.Omega.{arith}
 use lib.Seq.{paste-zero}
 use Rattle.readout.specs.Buffers.{no_room}
-use Rattle.readout.proofs.Writing.{next-byte, pasted_length, all-bytes}
+use Rattle.readout.proofs.Writing.{next_byte, pasted_length, all_bytes}
 use Rattle.readout.proofs.out.put_text.Goals as goal
 
 pub returns-then-out-at : goal.returns-then-out-at
@@ -19,10 +19,10 @@ pub bounds-out-at : goal.bounds-out-at
 bounds-out-at c = omega (arith, pasted_length c.args.out.now c.args.text.now c.args.at c.loop-i.i c.loop-i.out c.loop-i.invariant.1 (omega arith) (omega arith))
 
 pub loop-i-preserved : goal.loop-i-preserved
-loop-i-preserved c = (omega arith, next-byte c.args.out.now c.args.text.now c.args.at c.loop-i.i c.loop-i.out c.loop-i.invariant.1 (omega arith) (omega arith))
+loop-i-preserved c = (omega arith, next_byte c.args.out.now c.args.text.now c.args.at c.loop-i.i c.loop-i.out c.loop-i.invariant.1 (omega arith) (omega arith))
 
 pub shape_of-out : goal.shape_of-out
 shape_of-out c = pasted_length c.args.out.now c.args.text.now c.args.at c.loop-i.i c.loop-i.out c.loop-i.invariant.1 (omega arith) (omega arith)
 
 pub returns : goal.returns
-returns c = all-bytes c.args.out.now c.args.text.now c.args.at c.loop-i.i c.loop-i.out c.loop-i.invariant.1 (omega arith) (omega arith)
+returns c = all_bytes c.args.out.now c.args.text.now c.args.at c.loop-i.i c.loop-i.out c.loop-i.invariant.1 (omega arith) (omega arith)

@@ -1,0 +1,11 @@
+-- `pieces::sort_refused` meets its contract: the outcome as a reduction's.
+-- Assumes nothing.
+use mathlib.Core.Path.{sym, ap}
+use Rattle.pieces.specs.Found.{as_reduced_sort}
+use Rattle.pieces.proofs.sort_refused.Goals as goal
+
+pub returns-in-Found : goal.returns-in-Found
+returns-in-Found c = sym (ap as_reduced_sort c.in-Found.is)
+
+pub returns-in-Refused : goal.returns-in-Refused
+returns-in-Refused c = sym (ap as_reduced_sort c.in-Refused.is)
