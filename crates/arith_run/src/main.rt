@@ -3,7 +3,7 @@
 #![tactic(auto)]
 
 use arith::{Op, Outcome};
-use libc::STDOUT_FILENO;
+use std::io;
 
 const WORD_END: u64 = 0xffff_ffff;
 
@@ -13,60 +13,48 @@ const TWO_63: u64 = 0x8000_0000_0000_0000;
 
 const END: u64 = 0xffff_ffff_ffff_ffff;
 
-fn write_outcome(outcome: Outcome) {
+fn write_outcome(rt: &impl Print, outcome: Outcome) -> io::Result<()> {
     match outcome {
-        Outcome::Number(n) => {
-            io::print_decimal(STDOUT_FILENO, arith::value(n));
-        }
-        Outcome::Truth(yes) => {
-            if yes {
-                io::write_all(STDOUT_FILENO, b"true");
-            } else {
-                io::write_all(STDOUT_FILENO, b"false");
-            }
-        }
-        Outcome::TooLarge => {
-            io::write_all(STDOUT_FILENO, b"refused 7");
-        }
+        Outcome::Number(n) => print!(rt; "{}", arith::value(n)),
+        Outcome::Truth(yes) => print!(rt; "{yes}"),
+        Outcome::TooLarge => print!(rt; "refused 7"),
     }
 }
 
 // A line: `add 1 2 = 3`.
-fn write_case(op: Op, name: &[u8], x: u64, y: u64) {
-    io::write_all(STDOUT_FILENO, name);
-    io::write_all(STDOUT_FILENO, b" ");
-    io::print_decimal(STDOUT_FILENO, x);
-    io::write_all(STDOUT_FILENO, b" ");
-    io::print_decimal(STDOUT_FILENO, y);
-    io::write_all(STDOUT_FILENO, b" = ");
-    write_outcome(arith::compute(op, arith::number_of(x), arith::number_of(y)));
-    io::write_all(STDOUT_FILENO, b"\n");
+fn write_case(rt: &impl Print, op: Op, name: &str, x: u64, y: u64) -> io::Result<()> {
+    print!(rt; "{name} {x} {y} = ")?;
+    write_outcome(
+        rt,
+        arith::compute(op, arith::number_of(x), arith::number_of(y)),
+    )?;
+    println!(rt)
 }
 
-fn write_row(op: Op, name: &[u8], x: u64) {
-    write_case(op, name, x, 0);
-    write_case(op, name, x, 1);
-    write_case(op, name, x, WORD_END);
-    write_case(op, name, x, TWO_32);
-    write_case(op, name, x, TWO_63);
-    write_case(op, name, x, END);
+fn write_row(rt: &impl Print, op: Op, name: &str, x: u64) -> io::Result<()> {
+    write_case(rt, op, name, x, 0)?;
+    write_case(rt, op, name, x, 1)?;
+    write_case(rt, op, name, x, WORD_END)?;
+    write_case(rt, op, name, x, TWO_32)?;
+    write_case(rt, op, name, x, TWO_63)?;
+    write_case(rt, op, name, x, END)
 }
 
-fn write_pairs(op: Op, name: &[u8]) {
-    write_row(op, name, 0);
-    write_row(op, name, 1);
-    write_row(op, name, WORD_END);
-    write_row(op, name, TWO_32);
-    write_row(op, name, TWO_63);
-    write_row(op, name, END);
+fn write_pairs(rt: &impl Print, op: Op, name: &str) -> io::Result<()> {
+    write_row(rt, op, name, 0)?;
+    write_row(rt, op, name, 1)?;
+    write_row(rt, op, name, WORD_END)?;
+    write_row(rt, op, name, TWO_32)?;
+    write_row(rt, op, name, TWO_63)?;
+    write_row(rt, op, name, END)
 }
 
-fn main() {
-    write_pairs(Op::Add, b"add");
-    write_pairs(Op::Sub, b"sub");
-    write_pairs(Op::Mul, b"mul");
-    write_pairs(Op::Div, b"div");
-    write_pairs(Op::Mod, b"mod");
-    write_pairs(Op::Beq, b"beq");
-    write_pairs(Op::Ble, b"ble");
+fn main(rt: HostRuntime) -> io::Result<()> {
+    write_pairs(&rt, Op::Add, "add")?;
+    write_pairs(&rt, Op::Sub, "sub")?;
+    write_pairs(&rt, Op::Mul, "mul")?;
+    write_pairs(&rt, Op::Div, "div")?;
+    write_pairs(&rt, Op::Mod, "mod")?;
+    write_pairs(&rt, Op::Beq, "beq")?;
+    write_pairs(&rt, Op::Ble, "ble")
 }

@@ -1,10 +1,5 @@
 -- From what was tested to what replacement requires. Assumes nothing.
-use Prim.Native.Nat.{ℕ, zero, suc, ◌+◌, ◌<◌}
-use native.Mathlib.Omega.{arith}
-use mathlib.Core.Path.{◌≡◌, sym, ap, ◌∙◌}
-use mathlib.Core.Bool.{true, false}
-use mathlib.Core.List.{List}
-use lib.ListN.{length}
+use Rattle.std.proofs.Common.{ℕ, zero, suc, ◌+◌, ◌<◌, ◌≡◌, List, length, get_or, sym, ap, ◌∙◌, arith}
 use Rattle.rules.specs.Rows as rules
 use Rattle.rules.specs.Rows.{Cell, Store, cell_at}
 use Rattle.substitution.specs.Stores.{Good}
@@ -21,9 +16,6 @@ use Rattle.replace.specs.Replaced.{value_by, Sound, PtrReady}
 use Rattle.replace.proofs.Results.{checked_sound}
 use Rattle.replace_run.specs.Small.{Small}
 
-pub never : {P : Type 0} → false ≡ true → P
-never e = absurd (let z : ◌≡◌ {A = ℕ} 0 1 = cc in omega arith)
-
 -- A GOOD POINTER
 
 module _ (l sc : List ℕ) (m nlib : ℕ) (held : Held l sc m nlib) (p : Ptr) (low : p.row < nlib + m) where
@@ -36,7 +28,7 @@ module _ (l sc : List ℕ) (m nlib : ℕ) (held : Held l sc m nlib) (p : Ptr) (l
   pub good_still : p.shift ≡ 0 → Good (store_of l sc m) (ptr_of p)
   good_still e = record { lower = lower; still = λ _. e }
 
-  pub good_open : (ws : List ℕ) → ws ≡ words_at l sc p.row → (b : ℕ) → b ≡ lib.ListN.get_or ws 7 0 → (b ≡ 0 → ⊥) → Good (store_of l sc m) (ptr_of p)
+  pub good_open : (ws : List ℕ) → ws ≡ words_at l sc p.row → (b : ℕ) → b ≡ get_or ws 7 0 → (b ≡ 0 → ⊥) → Good (store_of l sc m) (ptr_of p)
   good_open ws read b e f =
       let here : (cell_at (whole l sc) p.row).bound ≡ b = bound_read l sc p.row there ws read b e in
       record { lower = lower; still = λ z. absurd (f (sym here ∙ ap (λ (x : Cell). x.bound) (cell_used l sc m nlib held p.row low) ∙ z)) }

@@ -7,10 +7,10 @@ ghost use Rattle.substitution.specs.Stores.{Good};
 ghost use Rattle.rows.specs.Words.{ptr_of, store_of, Held};
 ghost use Rattle.replace_run.specs.Small.{Small};
 
-use libc::STDOUT_FILENO;
 use replace::Sub;
 use rows::row_check::{Checked, check_rows};
 use rows::{Out, Ptr, bound_of, row_at};
+use std::io;
 
 // The library has whole rows, and so has the scratch.
 fn held(library: &[u32], scratch: &[u32], nlib: u32, mark: u32) -> bool
@@ -117,97 +117,108 @@ fn sub(row: u32, shift: u32, count: u32, by: u32) -> Sub {
     }
 }
 
-fn write_number(n: u32) {
-    io::write_all(STDOUT_FILENO, b" ");
-    io::print_decimal(STDOUT_FILENO, n as u64);
+fn write_number(rt: &impl Print, n: u32) -> io::Result<()> {
+    print!(rt; " {n}")
 }
 
-fn write_words(words: &[u32]) {
-    let mut i = 0;
-    while i < words.len() {
-        write_number(words[i]);
-        i += 1;
+fn write_words(rt: &impl Print, words: &[u32]) -> io::Result<()> {
+    for word in words {
+        write_number(rt, *word)?;
     }
+    Ok(())
 }
 
 // The pointer, the rows written, and their words; or the refusal.
-fn write_out(out: Out, scratch: &[u32]) {
+fn write_out(rt: &impl Print, out: Out, scratch: &[u32]) -> io::Result<()> {
     match out {
         Out::Done(q, mark) => {
-            write_number(q.row);
-            write_number(q.shift);
-            write_number(mark);
+            print!(rt; " {} {} {mark}", q.row, q.shift)?;
             let to = 9 * (mark as usize);
             if to <= scratch.len() {
-                write_words(&scratch[..to]);
+                write_words(rt, &scratch[..to])?;
             }
+            Ok(())
         }
-        Out::Refused(number) => {
-            io::write_all(STDOUT_FILENO, b" refused");
-            write_number(number);
-        }
+        Out::Refused(number) => print!(rt; " refused {number}"),
     }
 }
 
 // A case's answer, with the scratch's free rows.
-fn write_case(scratch: &mut [u32], p: Ptr, c: u32, x: Sub) {
+fn write_case(rt: &impl Print, scratch: &mut [u32], p: Ptr, c: u32, x: Sub) -> io::Result<()> {
     let library = LIBRARY;
     let out = replaced(&library, scratch, ROWS, p, c, x);
-    write_out(out, &scratch[..]);
+    write_out(rt, out, &scratch[..])
 }
 
 // A case's line, with so many free rows.
-fn run(name: &[u8], p: Ptr, c: u32, x: Sub, free: usize) {
+fn run(rt: &impl Print, name: &str, p: Ptr, c: u32, x: Sub, free: usize) -> io::Result<()> {
     let mut scratch = [0u32; 27];
-    io::write_all(STDOUT_FILENO, name);
-    io::write_all(STDOUT_FILENO, b":");
+    print!(rt; "{name}:")?;
     if free <= 3 {
-        write_case(&mut scratch[..9 * free], p, c, x);
+        write_case(rt, &mut scratch[..9 * free], p, c, x)?;
     }
-    io::write_all(STDOUT_FILENO, b"\n");
+    println!(rt)
 }
 
-fn main() {
-    run(b"E2", at(2, 0), 0, sub(1, 0, 1, 0), 3);
-    run(b"E3", at(3, 0), 0, sub(1, 0, 1, 2), 3);
-    run(b"value up under a binder", at(6, 0), 0, sub(2, 0, 1, 0), 3);
-    run(b"value not moved", at(2, 0), 0, sub(3, 0, 1, 2), 3);
-    run(b"closed result", at(5, 1), 1, sub(1, 0, 1, 0), 3);
+fn main(rt: HostRuntime) -> io::Result<()> {
+    run(&rt, "E2", at(2, 0), 0, sub(1, 0, 1, 0), 3)?;
+    run(&rt, "E3", at(3, 0), 0, sub(1, 0, 1, 2), 3)?;
     run(
-        b"index written though it stays",
+        &rt,
+        "value up under a binder",
+        at(6, 0),
+        0,
+        sub(2, 0, 1, 0),
+        3,
+    )?;
+    run(&rt, "value not moved", at(2, 0), 0, sub(3, 0, 1, 2), 3)?;
+    run(&rt, "closed result", at(5, 1), 1, sub(1, 0, 1, 0), 3)?;
+    run(
+        &rt,
+        "index written though it stays",
         at(3, 0),
         0,
         sub(1, 0, 1, 1),
         3,
-    );
-    run(b"shared row twice", at(7, 0), 0, sub(1, 0, 1, 3), 3);
-    run(b"shift moved", at(3, 2), 0, sub(1, 0, 1, 5), 3);
-    run(b"bound at the cutoff", at(3, 1), 3, sub(1, 0, 1, 5), 3);
-    run(b"no value, shift moved", at(5, 0), 0, sub(0, 0, 0, 3), 3);
+    )?;
+    run(&rt, "shared row twice", at(7, 0), 0, sub(1, 0, 1, 3), 3)?;
+    run(&rt, "shift moved", at(3, 2), 0, sub(1, 0, 1, 5), 3)?;
+    run(&rt, "bound at the cutoff", at(3, 1), 3, sub(1, 0, 1, 5), 3)?;
     run(
-        b"no value, past the cutoff",
+        &rt,
+        "no value, shift moved",
+        at(5, 0),
+        0,
+        sub(0, 0, 0, 3),
+        3,
+    )?;
+    run(
+        &rt,
+        "no value, past the cutoff",
         at(7, 0),
         1,
         sub(0, 0, 0, 3),
         3,
-    );
+    )?;
     run(
-        b"let, body at the next cutoff",
+        &rt,
+        "let, body at the next cutoff",
         at(8, 0),
         0,
         sub(2, 4, 1, 2),
         3,
-    );
+    )?;
     run(
-        b"projection keeps its words",
+        &rt,
+        "projection keeps its words",
         at(9, 0),
         0,
         sub(1, 0, 1, 0),
         3,
-    );
-    run(b"closed children", at(11, 2), 2, sub(3, 0, 1, 6), 3);
-    run(b"8 before 5", at(3, 0), 0, sub(1, 0, 1, 5000), 0);
-    run(b"5", at(3, 0), 0, sub(1, 0, 1, 0), 0);
-    run(b"5 at the second row", at(7, 0), 0, sub(1, 0, 1, 3), 1);
-    run(b"8 at the new row", at(5, 0), 0, sub(3, 4095, 1, 0), 3);
+    )?;
+    run(&rt, "closed children", at(11, 2), 2, sub(3, 0, 1, 6), 3)?;
+    run(&rt, "8 before 5", at(3, 0), 0, sub(1, 0, 1, 5000), 0)?;
+    run(&rt, "5", at(3, 0), 0, sub(1, 0, 1, 0), 0)?;
+    run(&rt, "5 at the second row", at(7, 0), 0, sub(1, 0, 1, 3), 1)?;
+    run(&rt, "8 at the new row", at(5, 0), 0, sub(3, 4095, 1, 0), 3)
 }

@@ -2,9 +2,9 @@
 // The file stdout has what document 01 says of each case: answers.py makes it, without this program.
 #![tactic(auto)]
 
-use libc::STDOUT_FILENO;
 use rows::row_check::Checked;
 use rows::{Out, Ptr, Shape};
+use std::io;
 
 const LIBRARY_ROWS: u32 = 6;
 
@@ -20,159 +20,144 @@ const SCRATCH: [u32; 54] = [
     0, 0, 0, 4096, 1, 7, 7, 7, 7, 7, 7, 7, 7, 7, 7, 7, 7, 7, 7, 7, 7, 7, 7,
 ];
 
-fn write_number(n: u32) {
-    io::write_all(STDOUT_FILENO, b" ");
-    io::print_decimal(STDOUT_FILENO, n as u64);
+fn write_number(rt: &impl Print, n: u32) -> io::Result<()> {
+    print!(rt; " {n}")
 }
 
-fn write_pointer(p: Ptr) {
-    write_number(p.row);
-    write_number(p.shift);
+fn write_pointer(rt: &impl Print, p: Ptr) -> io::Result<()> {
+    write_number(rt, p.row)?;
+    write_number(rt, p.shift)
 }
 
-fn end_line() {
-    io::write_all(STDOUT_FILENO, b"\n");
+fn end_line(rt: &impl Print) -> io::Result<()> {
+    println!(rt)
 }
 
 // The words from a place on.
-fn write_words(words: &[u32], from: usize) {
-    let mut i = from;
-    while i < words.len() {
-        write_number(words[i]);
-        i += 1;
+fn write_words(rt: &impl Print, words: &[u32], from: usize) -> io::Result<()> {
+    for word in words.iter().skip(from) {
+        write_number(rt, *word)?;
     }
-    end_line();
+    end_line(rt)
 }
 
-fn write_checked(answer: Checked) {
+fn write_checked(rt: &impl Print, answer: Checked) -> io::Result<()> {
     match answer {
-        Checked::AllPass => {
-            io::write_all(STDOUT_FILENO, b" = pass\n");
-        }
-        Checked::Broken(n) => {
-            io::write_all(STDOUT_FILENO, b" = broken");
-            write_number(n);
-            end_line();
-        }
+        Checked::AllPass => println!(rt; " = pass"),
+        Checked::Broken(n) => println!(rt; " = broken {n}"),
     }
 }
 
 // The answer, and then the scratch from the table's mark on.
-fn write_out(answer: Out) {
+fn write_out(rt: &impl Print, answer: Out) -> io::Result<()> {
     match answer {
         Out::Done(p, mark) => {
-            io::write_all(STDOUT_FILENO, b" = done");
-            write_pointer(p);
-            write_number(mark);
+            print!(rt; " = done")?;
+            write_pointer(rt, p)?;
+            write_number(rt, mark)?;
         }
-        Out::Refused(k) => {
-            io::write_all(STDOUT_FILENO, b" = refused");
-            write_number(k);
-        }
+        Out::Refused(k) => print!(rt; " = refused {k}")?,
     }
-    io::write_all(STDOUT_FILENO, b" :");
+    print!(rt; " :")
 }
 
 // The row check with one word of the library changed.
-fn check_library(at: usize, value: u32) {
+fn check_library(rt: &impl Print, at: usize, value: u32) -> io::Result<()> {
     let mut library = LIBRARY;
     let scratch = SCRATCH;
     if 54 <= at {
-        return;
+        return Ok(());
     }
     library[at] = value;
-    io::write_all(STDOUT_FILENO, b"library ");
-    io::print_decimal(STDOUT_FILENO, at as u64);
-    write_number(value);
-    write_checked(rows::row_check::check_rows(&library, &scratch, LIBRARY_ROWS, MARK, 2));
+    print!(rt; "library {at} {value}")?;
+    let checked = rows::row_check::check_rows(&library, &scratch, LIBRARY_ROWS, MARK, 2);
+    write_checked(rt, checked)
 }
 
 // The same with a word of the scratch.
-fn check_scratch(at: usize, value: u32) {
+fn check_scratch(rt: &impl Print, at: usize, value: u32) -> io::Result<()> {
     let library = LIBRARY;
     let mut scratch = SCRATCH;
     if 54 <= at {
-        return;
+        return Ok(());
     }
     scratch[at] = value;
-    io::write_all(STDOUT_FILENO, b"scratch ");
-    io::print_decimal(STDOUT_FILENO, at as u64);
-    write_number(value);
-    write_checked(rows::row_check::check_rows(&library, &scratch, LIBRARY_ROWS, MARK, 2));
+    print!(rt; "scratch {at} {value}")?;
+    let checked = rows::row_check::check_rows(&library, &scratch, LIBRARY_ROWS, MARK, 2);
+    write_checked(rt, checked)
 }
 
 // An application, lambda or pi where the mark is `mark`.
-fn make_two(kind: u32, mark: u32, a: Ptr, b: Ptr) {
+fn make_two(rt: &impl Print, kind: u32, mark: u32, a: Ptr, b: Ptr) -> io::Result<()> {
     let library = LIBRARY;
     let mut scratch = SCRATCH;
     if kind < 3 {
-        return;
+        return Ok(());
     }
     if 5 < kind {
-        return;
+        return Ok(());
     }
     if mark < MARK {
-        return;
+        return Ok(());
     }
     if 6 < mark {
-        return;
+        return Ok(());
     }
     if 10 <= a.row {
-        return;
+        return Ok(());
     }
     if 10 <= b.row {
-        return;
+        return Ok(());
     }
-    io::write_all(STDOUT_FILENO, b"make");
-    write_number(kind);
-    write_number(mark);
-    write_pointer(a);
-    write_pointer(b);
+    print!(rt; "make {kind} {mark}")?;
+    write_pointer(rt, a)?;
+    write_pointer(rt, b)?;
     let w = Shape {
         kind,
         first: a,
         second: b,
         third: Ptr { row: 0, shift: 0 },
     };
-    write_out(rows::writer::make(&library, &mut scratch, LIBRARY_ROWS, mark, w));
-    write_words(&scratch, 36);
+    let out = rows::writer::make(&library, &mut scratch, LIBRARY_ROWS, mark, w);
+    write_out(rt, out)?;
+    write_words(rt, &scratch, 36)
 }
 
 // A let.
-fn make_let(mark: u32, a: Ptr, b: Ptr, c: Ptr) {
+fn make_let(rt: &impl Print, mark: u32, a: Ptr, b: Ptr, c: Ptr) -> io::Result<()> {
     let library = LIBRARY;
     let mut scratch = SCRATCH;
     if mark < MARK {
-        return;
+        return Ok(());
     }
     if 6 < mark {
-        return;
+        return Ok(());
     }
     if 10 <= a.row {
-        return;
+        return Ok(());
     }
     if 10 <= b.row {
-        return;
+        return Ok(());
     }
     if 10 <= c.row {
-        return;
+        return Ok(());
     }
-    io::write_all(STDOUT_FILENO, b"make 6");
-    write_number(mark);
-    write_pointer(a);
-    write_pointer(b);
-    write_pointer(c);
+    print!(rt; "make 6 {mark}")?;
+    write_pointer(rt, a)?;
+    write_pointer(rt, b)?;
+    write_pointer(rt, c)?;
     let w = Shape {
         kind: 6,
         first: a,
         second: b,
         third: c,
     };
-    write_out(rows::writer::make(&library, &mut scratch, LIBRARY_ROWS, mark, w));
-    write_words(&scratch, 36);
+    let out = rows::writer::make(&library, &mut scratch, LIBRARY_ROWS, mark, w);
+    write_out(rt, out)?;
+    write_words(rt, &scratch, 36)
 }
 
-fn make_cases(mark: u32) {
+fn make_cases(rt: &impl Print, mark: u32) -> io::Result<()> {
     let none = Ptr { row: 0, shift: 0 };
     let open = Ptr { row: 4, shift: 2 };
     let top = Ptr { row: 9, shift: 0 };
@@ -181,137 +166,133 @@ fn make_cases(mark: u32) {
         row: 1,
         shift: 4294967295,
     };
-    make_two(3, mark, none, open);
-    make_two(3, mark, top, open);
-    make_two(3, mark, open, over);
-    make_two(3, mark, far, open);
-    make_two(4, mark, open, over);
-    make_two(5, mark, over, open);
-    make_let(mark, none, open, over);
-    make_let(mark, over, none, none);
-    make_let(mark, none, far, open);
+    make_two(rt, 3, mark, none, open)?;
+    make_two(rt, 3, mark, top, open)?;
+    make_two(rt, 3, mark, open, over)?;
+    make_two(rt, 3, mark, far, open)?;
+    make_two(rt, 4, mark, open, over)?;
+    make_two(rt, 5, mark, over, open)?;
+    make_let(rt, mark, none, open, over)?;
+    make_let(rt, mark, over, none, none)?;
+    make_let(rt, mark, none, far, open)
 }
 
 // The rows with plain words alone.
-fn make_var(mark: u32, index: u32) {
+fn make_var(rt: &impl Print, mark: u32, index: u32) -> io::Result<()> {
     let library = LIBRARY;
     let mut scratch = SCRATCH;
     if 6 < mark {
-        return;
+        return Ok(());
     }
-    io::write_all(STDOUT_FILENO, b"variable");
-    write_number(index);
-    write_out(rows::writer::make_var(&library, &mut scratch, LIBRARY_ROWS, mark, index));
-    write_words(&scratch, 36);
+    print!(rt; "variable {index}")?;
+    let out = rows::writer::make_var(&library, &mut scratch, LIBRARY_ROWS, mark, index);
+    write_out(rt, out)?;
+    write_words(rt, &scratch, 36)
 }
 
-fn make_sort(mark: u32, level: u32) {
+fn make_sort(rt: &impl Print, mark: u32, level: u32) -> io::Result<()> {
     let library = LIBRARY;
     let mut scratch = SCRATCH;
     if 6 < mark {
-        return;
+        return Ok(());
     }
-    io::write_all(STDOUT_FILENO, b"sort");
-    write_number(level);
-    write_out(rows::writer::make_sort(&library, &mut scratch, LIBRARY_ROWS, mark, level));
-    write_words(&scratch, 36);
+    print!(rt; "sort {level}")?;
+    let out = rows::writer::make_sort(&library, &mut scratch, LIBRARY_ROWS, mark, level);
+    write_out(rt, out)?;
+    write_words(rt, &scratch, 36)
 }
 
-fn make_const(mark: u32, declaration: u32, levels: u32) {
+fn make_const(rt: &impl Print, mark: u32, declaration: u32, levels: u32) -> io::Result<()> {
     let library = LIBRARY;
     let mut scratch = SCRATCH;
     if 6 < mark {
-        return;
+        return Ok(());
     }
-    io::write_all(STDOUT_FILENO, b"constant");
-    write_number(declaration);
-    write_number(levels);
-    write_out(rows::writer::make_const(
+    print!(rt; "constant {declaration} {levels}")?;
+    let out = rows::writer::make_const(
         &library,
         &mut scratch,
         LIBRARY_ROWS,
         mark,
         declaration,
         levels,
-    ));
-    write_words(&scratch, 36);
+    );
+    write_out(rt, out)?;
+    write_words(rt, &scratch, 36)
 }
 
-fn make_number(mark: u32, low: u32, high: u32) {
+fn make_number(rt: &impl Print, mark: u32, low: u32, high: u32) -> io::Result<()> {
     let library = LIBRARY;
     let mut scratch = SCRATCH;
     if 6 < mark {
-        return;
+        return Ok(());
     }
-    io::write_all(STDOUT_FILENO, b"number");
-    write_number(low);
-    write_number(high);
-    write_out(rows::writer::make_number(&library, &mut scratch, LIBRARY_ROWS, mark, low, high));
-    write_words(&scratch, 36);
+    print!(rt; "number {low} {high}")?;
+    let out = rows::writer::make_number(&library, &mut scratch, LIBRARY_ROWS, mark, low, high);
+    write_out(rt, out)?;
+    write_words(rt, &scratch, 36)
 }
 
-fn leaf_cases(mark: u32) {
-    make_var(mark, 4095);
-    make_var(mark, 4096);
-    make_sort(mark, 255);
-    make_sort(mark, 256);
-    make_const(mark, 1, 3);
-    make_number(mark, 4294967295, 7);
+fn leaf_cases(rt: &impl Print, mark: u32) -> io::Result<()> {
+    make_var(rt, mark, 4095)?;
+    make_var(rt, mark, 4096)?;
+    make_sort(rt, mark, 255)?;
+    make_sort(rt, mark, 256)?;
+    make_const(rt, mark, 1, 3)?;
+    make_number(rt, mark, 4294967295, 7)
 }
 
 // A pointer's bound, and the pointer shifted up by k.
-fn pointer_case(row: u32, shift: u32, k: u32) {
+fn pointer_case(rt: &impl Print, row: u32, shift: u32, k: u32) -> io::Result<()> {
     let library = LIBRARY;
     let scratch = SCRATCH;
     if 12 <= row {
-        return;
+        return Ok(());
     }
     let p = Ptr { row, shift };
-    io::write_all(STDOUT_FILENO, b"pointer");
-    write_pointer(p);
-    write_number(k);
-    io::write_all(STDOUT_FILENO, b" = ");
-    io::print_decimal(STDOUT_FILENO, rows::ptr_bound(&library, &scratch, p));
+    print!(rt; "pointer")?;
+    write_pointer(rt, p)?;
+    write_number(rt, k)?;
+    print!(rt; " = {}", rows::ptr_bound(&library, &scratch, p))?;
     if 65536 < k {
-        return;
+        return Ok(());
     }
     if 65536 < shift {
-        end_line();
-        return;
+        return end_line(rt);
     }
-    write_pointer(rows::shift_up(&library, &scratch, p, k));
-    end_line();
+    write_pointer(rt, rows::shift_up(&library, &scratch, p, k))?;
+    end_line(rt)
 }
 
-fn check_values(at: usize) {
-    check_library(at, 0);
-    check_library(at, 1);
-    check_library(at, 2);
-    check_library(at, 9);
-    check_library(at, 256);
-    check_library(at, 4096);
-    check_library(at, 4294967295);
-    check_scratch(at, 0);
-    check_scratch(at, 1);
-    check_scratch(at, 2);
-    check_scratch(at, 9);
-    check_scratch(at, 256);
-    check_scratch(at, 4096);
-    check_scratch(at, 4294967295);
+fn check_values(rt: &impl Print, at: usize) -> io::Result<()> {
+    check_library(rt, at, 0)?;
+    check_library(rt, at, 1)?;
+    check_library(rt, at, 2)?;
+    check_library(rt, at, 9)?;
+    check_library(rt, at, 256)?;
+    check_library(rt, at, 4096)?;
+    check_library(rt, at, 4294967295)?;
+    check_scratch(rt, at, 0)?;
+    check_scratch(rt, at, 1)?;
+    check_scratch(rt, at, 2)?;
+    check_scratch(rt, at, 9)?;
+    check_scratch(rt, at, 256)?;
+    check_scratch(rt, at, 4096)?;
+    check_scratch(rt, at, 4294967295)
 }
 
-fn main() {
+fn main(rt: HostRuntime) -> io::Result<()> {
     for at in 0..54 {
-        check_values(at);
+        check_values(&rt, at)?;
     }
-    make_cases(4);
-    make_cases(6);
-    leaf_cases(5);
-    leaf_cases(6);
-    pointer_case(0, 0, 5);
-    pointer_case(0, 3, 5);
-    pointer_case(4, 0, 5);
-    pointer_case(4, 3, 65536);
-    pointer_case(7, 4294967295, 0);
-    pointer_case(11, 1, 1);
+    make_cases(&rt, 4)?;
+    make_cases(&rt, 6)?;
+    leaf_cases(&rt, 5)?;
+    leaf_cases(&rt, 6)?;
+    pointer_case(&rt, 0, 0, 5)?;
+    pointer_case(&rt, 0, 3, 5)?;
+    pointer_case(&rt, 4, 0, 5)?;
+    pointer_case(&rt, 4, 3, 65536)?;
+    pointer_case(&rt, 7, 4294967295, 0)?;
+    pointer_case(&rt, 11, 1, 1)
 }

@@ -5,6 +5,7 @@ use super::answers::{write_answer, write_left};
 use super::kept::Kept;
 use call::{Answered, whnf};
 use rows::Ptr;
+use std::io;
 
 fn least(a: usize, b: usize) -> usize
     ensures { result ≤ b }
@@ -32,6 +33,7 @@ fn after(k: Kept, answer: Answered) -> Kept {
 
 // The lists are cut to the words that they have.
 fn whnf_on(
+    rt: &impl Print,
     library: &[u32],
     declarations: &[u32],
     rules: &[u32],
@@ -39,7 +41,7 @@ fn whnf_on(
     scratch: &mut [u32],
     k: Kept,
     term: Ptr,
-) -> Kept {
+) -> io::Result<Kept> {
     let answer = whnf(
         library,
         declarations,
@@ -52,12 +54,13 @@ fn whnf_on(
         k.steps,
         k.nesting,
     );
-    write_answer(library, &scratch[..], answer);
-    write_left(&scratch[..], context);
-    after(k, answer)
+    write_answer(rt, library, &scratch[..], answer)?;
+    write_left(rt, &scratch[..], context)?;
+    Ok(after(k, answer))
 }
 
 pub fn call_whnf(
+    rt: &impl Print,
     library: &[u32],
     declarations: &[u32],
     rules: &[u32],
@@ -65,9 +68,10 @@ pub fn call_whnf(
     scratch: &mut [u32],
     k: Kept,
     term: Ptr,
-) -> Kept {
+) -> io::Result<Kept> {
     let used = least(k.scratch, scratch.len());
     whnf_on(
+        rt,
         front(library, k.library),
         front(declarations, k.declarations),
         front(rules, k.rules),

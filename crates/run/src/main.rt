@@ -3,8 +3,10 @@
 #![tactic(auto)]
 
 use kept::{Kept, fresh};
-use libc::STDIN_FILENO;
 use statements::{finish_line, take_token};
+use std::io::Read;
+use std::rt::{Env, Files};
+use std::{env, fs, io};
 use text::feed;
 
 mod answers;
@@ -22,7 +24,11 @@ const RULE_WORDS: usize = 65536;
 
 const CONTEXT_WORDS: usize = 20485;
 
+// The bytes that are read at once.
+const PIECE: usize = 4096;
+
 fn take_byte(
+    rt: &impl Print,
     library: &mut [u32],
     declarations: &mut [u32],
     rules: &mut [u32],
@@ -30,21 +36,23 @@ fn take_byte(
     scratch: &mut [u32],
     k: Kept,
     b: u8,
-) -> Kept {
+) -> io::Result<Kept> {
     let fed = feed(k.reader, b);
     let token = fed.token;
     let reader = fed.reader;
-    let taken = take_token(library, declarations, rules, context, scratch, k, token);
+    let taken = take_token(rt, library, declarations, rules, context, scratch, k, token)?;
     if taken.ended {
-        return taken;
+        return Ok(taken);
     }
     if !fed.ends {
-        return taken.reading(reader);
+        return Ok(taken.reading(reader));
     }
-    finish_line(library, declarations, rules, context, scratch, taken).reading(reader)
+    let finished = finish_line(rt, library, declarations, rules, context, scratch, taken)?;
+    Ok(finished.reading(reader))
 }
 
 fn take_piece(
+    rt: &impl Print,
     library: &mut [u32],
     declarations: &mut [u32],
     rules: &mut [u32],
@@ -52,115 +60,112 @@ fn take_piece(
     scratch: &mut [u32],
     k: Kept,
     piece: &[u8],
-) -> Kept {
+) -> io::Result<Kept> {
     let mut taken = k;
-    let mut i = 0;
-    while i < piece.len() {
+    for b in piece {
         taken = take_byte(
+            rt,
             library,
             declarations,
             rules,
             context,
             scratch,
             taken,
-            piece[i],
-        );
+            *b,
+        )?;
         if taken.ended {
-            return taken;
+            return Ok(taken);
         }
-        i += 1;
     }
-    taken
+    Ok(taken)
 }
 
 // Reads once. The end of the input ends a line that has no end of its own.
 fn read_some(
+    rt: &(impl Print + Eprint),
     library: &mut [u32],
     declarations: &mut [u32],
     rules: &mut [u32],
     context: &mut [u32],
     scratch: &mut [u32],
     k: Kept,
-    fd: i32,
-) -> Kept {
-    let mut piece = io::buffer();
-    let got = libc::read(fd, &mut piece);
-    if got < 0 {
-        os::fail(b"read");
-        return k.end();
-    }
+    input: &mut impl Read,
+) -> io::Result<Kept> {
+    let mut piece = [0u8; PIECE];
+    let got = match input.read(&mut piece) {
+        Ok(n) => n,
+        Err(error) => {
+            eprintln!(rt; "read: {error}")?;
+            return Ok(k.end());
+        }
+    };
     if got == 0 {
-        let last = take_byte(library, declarations, rules, context, scratch, k, b'\n');
-        return last.end();
+        let last = take_byte(rt, library, declarations, rules, context, scratch, k, b'\n')?;
+        return Ok(last.end());
     }
-    let n = io::count(got, &piece);
     take_piece(
+        rt,
         library,
         declarations,
         rules,
         context,
         scratch,
         k,
-        &piece[..n],
+        &piece[..got],
     )
 }
 
-// A proved loop has to end, and nothing says that an input does: the turns are counted down, from a number that no run uses up.
+// A proved loop has to end, and nothing says that an input does: the turns are counted, up to a number that no run uses up.
 fn read_all(
+    rt: &(impl Print + Eprint),
     library: &mut [u32],
     declarations: &mut [u32],
     rules: &mut [u32],
     context: &mut [u32],
     scratch: &mut [u32],
-    fd: i32,
-) {
+    input: &mut impl Read,
+) -> io::Result<()> {
     let mut k = fresh();
-    let mut turns = u64::MAX;
-    while 0 < turns {
-        k = read_some(library, declarations, rules, context, scratch, k, fd);
+    for _ in 0..u64::MAX {
+        k = read_some(rt, library, declarations, rules, context, scratch, k, input)?;
         if k.ended {
-            return;
+            return Ok(());
         }
-        turns -= 1;
     }
+    Ok(())
 }
 
-fn run_from(fd: i32) {
-    let mut library = [0u32; ROW_WORDS];
-    let mut scratch = [0u32; ROW_WORDS];
-    let mut declarations = [0u32; DECLARATION_WORDS];
-    let mut rules = [0u32; RULE_WORDS];
-    let mut context = [0u32; CONTEXT_WORDS];
+fn run_from(rt: &(impl Print + Eprint + AllocGlobal), input: &mut impl Read) -> io::Result<()> {
+    let mut library = vec![in rt.alloc(); 0u32; ROW_WORDS]?;
+    let mut scratch = vec![in rt.alloc(); 0u32; ROW_WORDS]?;
+    let mut declarations = vec![in rt.alloc(); 0u32; DECLARATION_WORDS]?;
+    let mut rules = vec![in rt.alloc(); 0u32; RULE_WORDS]?;
+    let mut context = vec![in rt.alloc(); 0u32; CONTEXT_WORDS]?;
     read_all(
+        rt,
         &mut library,
         &mut declarations,
         &mut rules,
         &mut context,
         &mut scratch,
-        fd,
-    );
+        input,
+    )
 }
 
-fn run_file(name: &[u8]) {
-    let fd = os::open_read(name);
-    if fd < 0 {
-        os::fail(name);
-        return;
+fn run_file(rt: &(impl Print + Eprint + AllocGlobal + Files), name: &str) -> io::Result<()> {
+    match fs::open(rt, name) {
+        Ok(mut file) => run_from(rt, &mut file),
+        Err(error) => eprintln!(rt; "{name}: {error}"),
     }
-    run_from(fd);
-    libc::close(fd);
 }
 
-fn main() {
-    if os::arg_count() < 2 {
-        run_from(STDIN_FILENO);
-        return;
+fn main(rt: HostRuntime) -> io::Result<()> {
+    let mut args = match env::args(&rt) {
+        Ok(args) => args,
+        Err(error) => return eprintln!(rt; "the file's name: {error}"),
+    };
+    match args.nth(1) {
+        Some(name) => run_file(&rt, name.as_str()),
+        None => run_from(&rt, &mut rt.reader()),
     }
-    let mut name = io::buffer();
-    let length = os::arg(1, &mut name);
-    if os::errno() != 0 {
-        os::fail(b"the file's name");
-        return;
-    }
-    run_file(&name[..length]);
 }

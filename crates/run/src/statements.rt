@@ -3,6 +3,7 @@ use super::answers::wrong;
 use super::calls::call_whnf;
 use super::kept::Kept;
 use rows::Ptr;
+use std::io;
 use text::Token;
 
 // The keywords, their letters as digits to the base 256.
@@ -61,14 +62,14 @@ fn numbers_after(keyword: u64) -> u32 {
     }
 }
 
-fn begin(k: Kept, word: u64) -> Kept {
+fn begin(rt: &impl Print, k: Kept, word: u64) -> io::Result<Kept> {
     if k.keyword != 0 {
-        return wrong(k, b"a number is wanted after the first word");
+        return wrong(rt, k, "a number is wanted after the first word");
     }
     if numbers_after(word) == UNKNOWN {
-        return wrong(k, b"no such statement");
+        return wrong(rt, k, "no such statement");
     }
-    k.with_keyword(word)
+    Ok(k.with_keyword(word))
 }
 
 // One word more.
@@ -89,46 +90,43 @@ fn append_junk(words: &mut [u32], count: usize, more: u32) -> Grown {
         return Grown::NoRoom;
     }
     let end = count + (more as usize);
-    let mut i = count;
-    while i < end {
-        words[i] = JUNK;
-        i += 1;
-    }
+    words[count..end].fill(JUNK);
     Grown::To(end)
 }
 
 // The list of the keyword has grown.
-fn counted(k: Kept, keyword: u64, grown: Grown) -> Kept {
+fn counted(rt: &impl Print, k: Kept, keyword: u64, grown: Grown) -> io::Result<Kept> {
     let Grown::To(count) = grown else {
-        return wrong(k, b"no room");
+        return wrong(rt, k, "no room");
     };
     let mut longer = k;
     match keyword {
         LIB => {
             longer.library = count;
-            return longer;
+            return Ok(longer);
         }
         DECL => {
             longer.declarations = count;
-            return longer;
+            return Ok(longer);
         }
         RULE => {
             longer.rules = count;
-            return longer;
+            return Ok(longer);
         }
         CTX => {
             longer.context = count;
-            return longer;
+            return Ok(longer);
         }
         _ => {
             longer.scratch = count;
-            return longer;
+            return Ok(longer);
         }
     }
 }
 
 // A word for the list of the line's keyword.
 fn take_word(
+    rt: &impl Print,
     library: &mut [u32],
     declarations: &mut [u32],
     rules: &mut [u32],
@@ -136,28 +134,29 @@ fn take_word(
     scratch: &mut [u32],
     k: Kept,
     word: u32,
-) -> Kept {
+) -> io::Result<Kept> {
     let keyword = k.keyword;
     match keyword {
         LIB => {
-            return counted(k, LIB, append(library, k.library, word));
+            return counted(rt, k, LIB, append(library, k.library, word));
         }
         DECL => {
-            return counted(k, DECL, append(declarations, k.declarations, word));
+            return counted(rt, k, DECL, append(declarations, k.declarations, word));
         }
         RULE => {
-            return counted(k, RULE, append(rules, k.rules, word));
+            return counted(rt, k, RULE, append(rules, k.rules, word));
         }
         CTX => {
-            return counted(k, CTX, append(context, k.context, word));
+            return counted(rt, k, CTX, append(context, k.context, word));
         }
         _ => {
-            return counted(k, SCR, append(scratch, k.scratch, word));
+            return counted(rt, k, SCR, append(scratch, k.scratch, word));
         }
     }
 }
 
 fn take_number(
+    rt: &impl Print,
     library: &mut [u32],
     declarations: &mut [u32],
     rules: &mut [u32],
@@ -165,35 +164,45 @@ fn take_number(
     scratch: &mut [u32],
     k: Kept,
     number: u32,
-) -> Kept {
+) -> io::Result<Kept> {
     let wanted = numbers_after(k.keyword);
     if wanted == UNKNOWN {
-        return wrong(k, b"a word is wanted before the first number");
+        return wrong(rt, k, "a word is wanted before the first number");
     }
     if wanted == WORDS {
-        return take_word(library, declarations, rules, context, scratch, k, number);
+        return take_word(
+            rt,
+            library,
+            declarations,
+            rules,
+            context,
+            scratch,
+            k,
+            number,
+        );
     }
     if wanted <= k.numbers {
-        return miscounted(k, wanted);
+        return miscounted(rt, k, wanted);
     }
-    k.with_number(number)
+    Ok(k.with_number(number))
 }
 
-fn miscounted(k: Kept, wanted: u32) -> Kept {
+fn miscounted(rt: &impl Print, k: Kept, wanted: u32) -> io::Result<Kept> {
     match wanted {
         0 => {
-            return wrong(k, b"no number is wanted");
+            return wrong(rt, k, "no number is wanted");
         }
         1 => {
-            return wrong(k, b"one number is wanted");
+            return wrong(rt, k, "one number is wanted");
         }
         _ => {
-            return wrong(k, b"two numbers are wanted");
+            return wrong(rt, k, "two numbers are wanted");
         }
     }
 }
 
 pub fn take_token(
+    rt: &impl Print,
     library: &mut [u32],
     declarations: &mut [u32],
     rules: &mut [u32],
@@ -201,22 +210,31 @@ pub fn take_token(
     scratch: &mut [u32],
     k: Kept,
     token: Token,
-) -> Kept {
+) -> io::Result<Kept> {
     match token {
         Token::Nothing => {
-            return k;
+            return Ok(k);
         }
         Token::Word(word) => {
-            return begin(k, word);
+            return begin(rt, k, word);
         }
         Token::Number(number) => {
-            return take_number(library, declarations, rules, context, scratch, k, number);
+            return take_number(
+                rt,
+                library,
+                declarations,
+                rules,
+                context,
+                scratch,
+                k,
+                number,
+            );
         }
         Token::TooLarge => {
-            return wrong(k, b"a number over 4294967295");
+            return wrong(rt, k, "a number over 4294967295");
         }
         Token::Stray => {
-            return wrong(k, b"neither a word nor a number");
+            return wrong(rt, k, "neither a word nor a number");
         }
     }
 }
@@ -247,13 +265,14 @@ fn set_number(k: Kept) -> Kept {
 
 // What the line's statement does.
 fn perform(
+    rt: &impl Print,
     library: &[u32],
     declarations: &[u32],
     rules: &[u32],
     context: &mut [u32],
     scratch: &mut [u32],
     k: Kept,
-) -> Kept {
+) -> io::Result<Kept> {
     let keyword = k.keyword;
     match keyword {
         WHNF => {
@@ -261,52 +280,72 @@ fn perform(
                 row: k.first,
                 shift: k.second,
             };
-            return call_whnf(library, declarations, rules, &context[..], scratch, k, term);
+            return call_whnf(
+                rt,
+                library,
+                declarations,
+                rules,
+                &context[..],
+                scratch,
+                k,
+                term,
+            );
         }
         AGAIN => {
             if !k.answered {
-                return wrong(k, b"nothing to do again");
+                return wrong(rt, k, "nothing to do again");
             }
             let term = Ptr {
                 row: k.row,
                 shift: k.shift,
             };
-            return call_whnf(library, declarations, rules, &context[..], scratch, k, term);
+            return call_whnf(
+                rt,
+                library,
+                declarations,
+                rules,
+                &context[..],
+                scratch,
+                k,
+                term,
+            );
         }
         INFER => {
-            return wrong(k, b"infer is not there yet");
+            return wrong(rt, k, "infer is not there yet");
         }
         FILL => {
-            return counted(k, SCR, append_junk(scratch, k.scratch, k.first));
+            return counted(rt, k, SCR, append_junk(scratch, k.scratch, k.first));
         }
         SPARE => {
-            return counted(k, CTX, append_junk(context, k.context, k.first));
+            return counted(rt, k, CTX, append_junk(context, k.context, k.first));
         }
         RESET => {
-            return k.reset();
+            return Ok(k.reset());
         }
         MARK | DEPTH | STEPS | NESTING => {
-            return set_number(k);
+            return Ok(set_number(k));
         }
         _ => {
-            return k;
+            return Ok(k);
         }
     }
 }
 
 pub fn finish_line(
+    rt: &impl Print,
     library: &[u32],
     declarations: &[u32],
     rules: &[u32],
     context: &mut [u32],
     scratch: &mut [u32],
     k: Kept,
-) -> Kept {
+) -> io::Result<Kept> {
     let wanted = numbers_after(k.keyword);
     if wanted < WORDS {
         if k.numbers < wanted {
-            return miscounted(k, wanted);
+            return miscounted(rt, k, wanted);
         }
     }
-    perform(library, declarations, rules, context, scratch, k).next_line()
+    let done = perform(rt, library, declarations, rules, context, scratch, k)?;
+    Ok(done.next_line())
 }

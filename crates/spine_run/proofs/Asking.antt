@@ -1,11 +1,6 @@
 -- What the program's tests show: rows pass and the term is in scope, and so its spine may be walked and its arguments applied.
 -- Assumes nothing.
-use Prim.Native.Nat.{ℕ, ◌+◌, ◌≤◌, ◌<◌}
-use native.Mathlib.Omega.{arith}
-use mathlib.Core.Path.{◌≡◌, sym, ap, ◌∙◌}
-use mathlib.Core.Bool.{false}
-use mathlib.Core.List.{List}
-use lib.ListN.{get_or}
+use Rattle.std.proofs.Common.{ℕ, ◌+◌, ◌≤◌, ◌<◌, ◌≡◌, List, get_or, sym, ap, ◌∙◌, arith}
 use Rattle.rules.specs.Rows.{Cell, bound}
 use Rattle.rules.specs.RowCheck as rules
 use Rattle.rules.specs.RowCheck.{InScope}
@@ -18,10 +13,7 @@ use Rattle.rows.proofs.Store.{cell_is, bound_used, held_length}
 use Rattle.spine.specs.declared.Spined.{Spined}
 use Rattle.spine.specs.Walks.{Walks, Walked, Counted, Applies}
 use Rattle.spine.proofs.ForCallers.{may_walk, may_ask, walked_count}
-use Rattle.spine_run.specs.Ready.{Ready, Shows}
-
-pub not_shown : {P : Type 0} → Shows P false
-not_shown = record { yes = λ e. absurd (let z : ◌≡◌ {A = ℕ} 0 1 = cc in omega arith) }
+use Rattle.spine_run.specs.Ready.{Ready}
 
 -- the row check's answer is that all rows pass
 pub pass_of : {D m nlib : ℕ} {l sc : List ℕ} {r : Checked} → CheckSays D l sc m nlib r → r ≡ AllPass → rules.AllPass D (store_of l sc m)
@@ -38,6 +30,14 @@ module _ (l sc : List ℕ) (m nlib : ℕ) (held : Held l sc m nlib) (t : Ptr) wh
       let here = ap (λ (x : Cell). x.bound) (cell_is l sc nlib held.whole_library m t.row low) in
       let used = bound_used l sc m nlib held t.row low t.shift in
       record { there = omega arith; still = λ e. still (sym here ∙ e); within = rw (← used, ← is_bound) small }
+
+  -- every test has passed but the last, that a closed pointer's shift is 0
+  pub ready_by : {r : Checked} → CheckSays 1 l sc m nlib r → r ≡ AllPass → t.row < nlib + m → (b : ℕ) → b ≡ bound (whole l sc) (ptr_of t) → b ≤ 4096 →
+      (ws : List ℕ) → ws ≡ words_at l sc t.row → (k : ℕ) → k ≡ get_or ws 7 0 → (k ≡ 0 → t.shift ≡ 0) → Ready l sc m t
+  ready_by says all low b is_bound small ws read k word still = record {
+    pass = pass_of says all;
+    scope = scope_of b low is_bound small (λ e. still (word ∙ ap (λ (xs : List ℕ). get_or xs 7 0) read ∙ e));
+  }
 
   module _ (ready : Ready l sc m t) where
     pub walks_of : Walks l sc t

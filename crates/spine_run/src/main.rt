@@ -6,9 +6,9 @@ ghost use Rattle.std.specs.Prelude.{length, ◌≤◌, ◌≡◌};
 ghost use Rattle.rows.specs.Words.{Held};
 ghost use Rattle.spine_run.specs.Ready.{Ready, Shows};
 
-use libc::STDOUT_FILENO;
 use rows::row_check::{Checked, check_rows};
 use rows::{Out, Ptr, bound_of, ptr_bound, row_at};
+use std::io;
 
 const LIBRARY_ROWS: u32 = 7;
 
@@ -48,35 +48,30 @@ const SCRATCH: [u32; 45] = [
     0, 0, 0, 0, 0, 0, 0, 0, 0,
 ];
 
-fn write_number(n: u32) {
-    io::write_all(STDOUT_FILENO, b" ");
-    io::print_decimal(STDOUT_FILENO, n as u64);
+fn write_number(rt: &impl Print, n: u32) -> io::Result<()> {
+    print!(rt; " {n}")
 }
 
-fn write_pointer(p: Ptr) {
-    write_number(p.row);
-    write_number(p.shift);
+fn write_pointer(rt: &impl Print, p: Ptr) -> io::Result<()> {
+    write_number(rt, p.row)?;
+    write_number(rt, p.shift)
 }
 
-fn write_words(words: &[u32], from: usize) {
-    let mut i = from;
-    while i < words.len() {
-        write_number(words[i]);
-        i += 1;
+fn write_words(rt: &impl Print, words: &[u32], from: usize) -> io::Result<()> {
+    for word in words.iter().skip(from) {
+        write_number(rt, *word)?;
     }
+    Ok(())
 }
 
-fn write_out(answer: Out) {
+fn write_out(rt: &impl Print, answer: Out) -> io::Result<()> {
     match answer {
         Out::Done(p, mark) => {
-            io::write_all(STDOUT_FILENO, b" = done");
-            write_pointer(p);
-            write_number(mark);
+            print!(rt; " = done")?;
+            write_pointer(rt, p)?;
+            write_number(rt, mark)
         }
-        Out::Refused(k) => {
-            io::write_all(STDOUT_FILENO, b" = refused");
-            write_number(k);
-        }
+        Out::Refused(k) => print!(rt; " = refused {k}"),
     }
 }
 
@@ -102,41 +97,56 @@ fn ready<'a>(library: &'a [u32], scratch: &'a [u32], nlib: u32, mark: u32, t: Pt
 }
 
 // A line `head ROW SHIFT = ROW SHIFT COUNT`.
-fn show_head<'a>(library: &'a [u32], scratch: &'a [u32], nlib: u32, mark: u32, t: Ptr)
+fn show_head<'a>(
+    rt: &impl Print,
+    library: &'a [u32],
+    scratch: &'a [u32],
+    nlib: u32,
+    mark: u32,
+    t: Ptr,
+) -> io::Result<()>
     requires { Held library.now scratch.now mark nlib }
 {
     if ready(library, scratch, nlib, mark, t) {
         let r = spine::head_of(library, scratch, t);
-        io::write_all(STDOUT_FILENO, b"head");
-        write_pointer(t);
-        io::write_all(STDOUT_FILENO, b" =");
-        write_pointer(r.head);
-        write_number(r.count);
-        io::write_all(STDOUT_FILENO, b"\n");
+        print!(rt; "head")?;
+        write_pointer(rt, t)?;
+        print!(rt; " =")?;
+        write_pointer(rt, r.head)?;
+        write_number(rt, r.count)?;
+        println!(rt)?;
     }
+    Ok(())
 }
 
 // A line `arguments ROW SHIFT = ROW SHIFT ROW SHIFT ..`.
-fn show_arguments<'a>(library: &'a [u32], scratch: &'a [u32], nlib: u32, mark: u32, t: Ptr)
+fn show_arguments<'a>(
+    rt: &impl Print,
+    library: &'a [u32],
+    scratch: &'a [u32],
+    nlib: u32,
+    mark: u32,
+    t: Ptr,
+) -> io::Result<()>
     requires { Held library.now scratch.now mark nlib }
 {
     if ready(library, scratch, nlib, mark, t) {
         let r = spine::head_of(library, scratch, t);
         let count = r.count;
-        io::write_all(STDOUT_FILENO, b"arguments");
-        write_pointer(t);
-        io::write_all(STDOUT_FILENO, b" =");
-        let mut i = 0;
-        while i < count {
-            write_pointer(spine::argument(library, scratch, t, count, i));
-            i += 1;
+        print!(rt; "arguments")?;
+        write_pointer(rt, t)?;
+        print!(rt; " =")?;
+        for i in 0..count {
+            write_pointer(rt, spine::argument(library, scratch, t, count, i))?;
         }
-        io::write_all(STDOUT_FILENO, b"\n");
+        println!(rt)?;
     }
+    Ok(())
 }
 
 // A line `apply F, T, FROM TO = ANSWER : WORDS`, the words being those of the scratch from the mark on.
 fn show_apply(
+    rt: &impl Print,
     library: &[u32],
     scratch: &mut [u32],
     nlib: u32,
@@ -145,61 +155,68 @@ fn show_apply(
     t: Ptr,
     from: u32,
     to: u32,
-)
+) -> io::Result<()>
     requires { Held library.now scratch.old mark nlib }
 {
     let free = 9 * (mark as usize);
     if !ready(library, &scratch[..], nlib, mark, t) {
-        return;
+        return Ok(());
     }
     let r = spine::head_of(library, &scratch[..], t);
     let count = r.count;
     if nlib + mark <= f.row {
-        return;
+        return Ok(());
     }
     if to < from {
-        return;
+        return Ok(());
     }
     if count < to {
-        return;
+        return Ok(());
     }
     let out = spine::apply(library, scratch, nlib, mark, f, t, count, from, to);
-    io::write_all(STDOUT_FILENO, b"apply");
-    write_pointer(f);
-    write_pointer(t);
-    write_number(from);
-    write_number(to);
-    write_out(out);
-    io::write_all(STDOUT_FILENO, b" :");
-    write_words(&scratch[..], free);
-    io::write_all(STDOUT_FILENO, b"\n");
+    print!(rt; "apply")?;
+    write_pointer(rt, f)?;
+    write_pointer(rt, t)?;
+    write_number(rt, from)?;
+    write_number(rt, to)?;
+    write_out(rt, out)?;
+    print!(rt; " :")?;
+    write_words(rt, &scratch[..], free)?;
+    println!(rt)
 }
 
-fn walk_case(row: u32, shift: u32) {
+fn walk_case(rt: &impl Print, row: u32, shift: u32) -> io::Result<()> {
     let library = LIBRARY;
     let scratch = SCRATCH;
     let t = Ptr { row, shift };
-    show_head(&library, &scratch, LIBRARY_ROWS, MARK, t);
-    show_arguments(&library, &scratch, LIBRARY_ROWS, MARK, t);
+    show_head(rt, &library, &scratch, LIBRARY_ROWS, MARK, t)?;
+    show_arguments(rt, &library, &scratch, LIBRARY_ROWS, MARK, t)
 }
 
-fn apply_case(f: Ptr, t: Ptr, from: u32, to: u32) {
+fn apply_case(rt: &impl Print, f: Ptr, t: Ptr, from: u32, to: u32) -> io::Result<()> {
     let library = LIBRARY;
     let mut scratch = SCRATCH;
-    show_apply(&library, &mut scratch, LIBRARY_ROWS, MARK, f, t, from, to);
+    show_apply(
+        rt,
+        &library,
+        &mut scratch,
+        LIBRARY_ROWS,
+        MARK,
+        f,
+        t,
+        from,
+        to,
+    )
 }
 
 // Every run of the three arguments at t.
-fn apply_runs(f: Ptr, t: Ptr) {
-    let mut from = 0;
-    while from <= 3 {
-        let mut to = from;
-        while to <= 3 {
-            apply_case(f, t, from, to);
-            to += 1;
+fn apply_runs(rt: &impl Print, f: Ptr, t: Ptr) -> io::Result<()> {
+    for from in 0..=3 {
+        for to in from..=3 {
+            apply_case(rt, f, t, from, to)?;
         }
-        from += 1;
     }
+    Ok(())
 }
 
 // Row 0 is a constant, and row k is row k - 1 applied to it: its height is k + 1.
@@ -208,18 +225,16 @@ fn build_tower(words: &mut [u32])
 {
     words[0] = 2;
     words[8] = 1;
-    let mut k: u32 = 1;
-    while k < TOWER_ROWS {
+    for k in 1..TOWER_ROWS {
         let at = 9 * (k as usize);
         words[at] = 3;
         words[at + 1] = k - 1;
         words[at + 8] = k + 1;
-        k += 1;
     }
 }
 
 // The walk down the whole tower.
-fn tower_walk() {
+fn tower_walk(rt: &impl Print) -> io::Result<()> {
     let mut library = [0; 18000];
     let scratch = [0; 9];
     build_tower(&mut library);
@@ -227,39 +242,37 @@ fn tower_walk() {
         row: TOWER_ROWS - 1,
         shift: 0,
     };
-    show_head(&library, &scratch, TOWER_ROWS, 0, top);
+    show_head(rt, &library, &scratch, TOWER_ROWS, 0, top)
 }
 
 // The row that is applied has the height `row + 1`.
-fn tower_case(row: u32) {
+fn tower_case(rt: &impl Print, row: u32) -> io::Result<()> {
     let mut library = [0; 18000];
     let mut scratch = [0; 27];
     build_tower(&mut library);
     let f = Ptr { row, shift: 0 };
     let t = Ptr { row: 2, shift: 0 };
-    show_apply(&library, &mut scratch, TOWER_ROWS, 0, f, t, 0, 2);
+    show_apply(rt, &library, &mut scratch, TOWER_ROWS, 0, f, t, 0, 2)
 }
 
-fn main() {
-    walk_case(0, 0);
-    walk_case(1, 2);
-    walk_case(4, 0);
-    walk_case(4, 3);
-    walk_case(6, 0);
-    walk_case(6, 5);
-    walk_case(8, 2);
-    walk_case(9, 3);
-    apply_runs(Ptr { row: 7, shift: 0 }, Ptr { row: 6, shift: 5 });
-    apply_runs(Ptr { row: 1, shift: 9 }, Ptr { row: 6, shift: 0 });
-    apply_runs(
-        Ptr {
-            row: 2,
-            shift: 4095,
-        },
-        Ptr { row: 6, shift: 0 },
-    );
-    tower_walk();
-    tower_case(1997);
-    tower_case(1998);
-    tower_case(1999);
+fn main(rt: HostRuntime) -> io::Result<()> {
+    walk_case(&rt, 0, 0)?;
+    walk_case(&rt, 1, 2)?;
+    walk_case(&rt, 4, 0)?;
+    walk_case(&rt, 4, 3)?;
+    walk_case(&rt, 6, 0)?;
+    walk_case(&rt, 6, 5)?;
+    walk_case(&rt, 8, 2)?;
+    walk_case(&rt, 9, 3)?;
+    apply_runs(&rt, Ptr { row: 7, shift: 0 }, Ptr { row: 6, shift: 5 })?;
+    apply_runs(&rt, Ptr { row: 1, shift: 9 }, Ptr { row: 6, shift: 0 })?;
+    let far = Ptr {
+        row: 2,
+        shift: 4095,
+    };
+    apply_runs(&rt, far, Ptr { row: 6, shift: 0 })?;
+    tower_walk(&rt)?;
+    tower_case(&rt, 1997)?;
+    tower_case(&rt, 1998)?;
+    tower_case(&rt, 1999)
 }

@@ -2,8 +2,9 @@
 // The file stdout has what document 01 and the format say of each case: answers.py makes it, without this program.
 #![tactic(auto)]
 
-use libc::STDOUT_FILENO;
 use rows::Ptr;
+use std::alloc::{AllocError, Global};
+use std::io;
 use tables::accept::Verdict;
 
 // The list that a word is changed in.
@@ -27,16 +28,14 @@ fn value(letter: u8) -> u32 {
 
 // Words from their letters.
 fn lay(words: &mut [u32], at: usize, text: &[u8]) {
-    let mut i = 0;
-    while i < text.len() {
+    for (i, letter) in text.iter().enumerate() {
         if words.len() <= i {
             return;
         }
         if words.len() - i <= at {
             return;
         }
-        words[at + i] = value(text[i]);
-        i += 1;
+        words[at + i] = value(*letter);
     }
 }
 
@@ -74,10 +73,8 @@ fn declarations() -> [u32; 96] {
 // 68 rules for zero between two that no recursor names
 fn rules() -> [u32; 280] {
     let mut w = [9u32; 280];
-    let mut i = 1;
-    while i < 69 {
+    for i in 1..69 {
         lay(&mut w, 4 * i, b"1030");
-        i += 1;
     }
     w
 }
@@ -102,27 +99,24 @@ fn set(words: &mut [u32], at: usize, value: u32) {
     }
 }
 
-fn write_number(n: u64) {
-    io::write_all(STDOUT_FILENO, b" ");
-    io::print_decimal(STDOUT_FILENO, n);
+fn write_number(rt: &impl Print, n: u64) -> io::Result<()> {
+    print!(rt; " {n}")
 }
 
-fn write_verdict(v: Verdict) {
+fn write_verdict(rt: &impl Print, v: Verdict) -> io::Result<()> {
     match v {
-        Verdict::Accepted => {
-            io::write_all(STDOUT_FILENO, b" = accepted\n");
-        }
+        Verdict::Accepted => println!(rt; " = accepted"),
         Verdict::Refused(number, place) => {
-            io::write_all(STDOUT_FILENO, b" = refused");
-            write_number(number as u64);
-            write_number(place as u64);
-            io::write_all(STDOUT_FILENO, b"\n");
+            print!(rt; " = refused")?;
+            write_number(rt, number as u64)?;
+            write_number(rt, place as u64)?;
+            println!(rt)
         }
     }
 }
 
 // One word of one list is another.
-fn word_case(list: u32, at: usize, value: u32) {
+fn word_case(rt: &impl Print, list: u32, at: usize, value: u32) -> io::Result<()> {
     let mut l = library();
     let mut sc = scratch();
     let mut ds = declarations();
@@ -133,16 +127,14 @@ fn word_case(list: u32, at: usize, value: u32) {
     set(&mut ds, place(list, DECLARATIONS, at), value);
     set(&mut rs, place(list, RULES, at), value);
     set(&mut cs, place(list, CONTEXT, at), value);
-    io::write_all(STDOUT_FILENO, b"word");
-    write_number(list as u64);
-    write_number(at as u64);
-    write_number(value as u64);
+    print!(rt; "word {list} {at} {value}")?;
     let term = Ptr { row: 5, shift: 0 };
-    write_verdict(tables::accept::accept(&l, &ds, &rs, &cs, 2, &sc, 2, term, 7, 3));
+    let verdict = tables::accept::accept(&l, &ds, &rs, &cs, 2, &sc, 2, term, 7, 3);
+    write_verdict(rt, verdict)
 }
 
 // Two words of the declarations are others.
-fn pair_case(at: usize, value: u32, other: usize, second: u32) {
+fn pair_case(rt: &impl Print, at: usize, value: u32, other: usize, second: u32) -> io::Result<()> {
     let l = library();
     let sc = scratch();
     let mut ds = declarations();
@@ -150,32 +142,32 @@ fn pair_case(at: usize, value: u32, other: usize, second: u32) {
     let cs = context();
     set(&mut ds, at, value);
     set(&mut ds, other, second);
-    io::write_all(STDOUT_FILENO, b"pair");
-    write_number(at as u64);
-    write_number(value as u64);
-    write_number(other as u64);
-    write_number(second as u64);
+    print!(rt; "pair {at} {value} {other} {second}")?;
     let term = Ptr { row: 5, shift: 0 };
-    write_verdict(tables::accept::accept(&l, &ds, &rs, &cs, 2, &sc, 2, term, 7, 3));
+    let verdict = tables::accept::accept(&l, &ds, &rs, &cs, 2, &sc, 2, term, 7, 3);
+    write_verdict(rt, verdict)
 }
 
 // The numbers of the call are others.
-fn number_case(mark: u32, depth: u32, term: Ptr, steps: u32, nesting: u32) {
+fn number_case(
+    rt: &impl Print,
+    mark: u32,
+    depth: u32,
+    term: Ptr,
+    steps: u32,
+    nesting: u32,
+) -> io::Result<()> {
     let l = library();
     let sc = scratch();
     let ds = declarations();
     let rs = rules();
     let cs = context();
-    io::write_all(STDOUT_FILENO, b"numbers");
-    write_number(mark as u64);
-    write_number(depth as u64);
-    write_number(term.row as u64);
-    write_number(term.shift as u64);
-    write_number(steps as u64);
-    write_number(nesting as u64);
-    write_verdict(tables::accept::accept(
-        &l, &ds, &rs, &cs, depth, &sc, mark, term, steps, nesting,
-    ));
+    print!(rt;
+        "numbers {mark} {depth} {} {} {steps} {nesting}",
+        term.row, term.shift
+    )?;
+    let verdict = tables::accept::accept(&l, &ds, &rs, &cs, depth, &sc, mark, term, steps, nesting);
+    write_verdict(rt, verdict)
 }
 
 // The first words of a list alone.
@@ -187,20 +179,22 @@ fn first(words: &[u32], n: usize) -> &[u32] {
 }
 
 // The lists are cut.
-fn length_case(a: usize, b: usize, c: usize, d: usize, e: usize) {
+fn length_case(
+    rt: &impl Print,
+    a: usize,
+    b: usize,
+    c: usize,
+    d: usize,
+    e: usize,
+) -> io::Result<()> {
     let l = library();
     let sc = scratch();
     let ds = declarations();
     let rs = rules();
     let cs = context();
-    io::write_all(STDOUT_FILENO, b"lengths");
-    write_number(a as u64);
-    write_number(b as u64);
-    write_number(c as u64);
-    write_number(d as u64);
-    write_number(e as u64);
+    print!(rt; "lengths {a} {b} {c} {d} {e}")?;
     let term = Ptr { row: 5, shift: 0 };
-    write_verdict(tables::accept::accept(
+    let verdict = tables::accept::accept(
         first(&l, a),
         first(&ds, b),
         first(&rs, c),
@@ -211,15 +205,16 @@ fn length_case(a: usize, b: usize, c: usize, d: usize, e: usize) {
         term,
         7,
         3,
-    ));
+    );
+    write_verdict(rt, verdict)
 }
 
-fn many_words() -> [u32; 1048580] {
-    [0u32; 1048580]
+fn many_words(alloc: Global) -> Result<Vec<u32>, AllocError> {
+    vec![in alloc; 0; 1048580]
 }
 
-fn many_zeros() -> [u32; 65552] {
-    [0u32; 65552]
+fn many_zeros(alloc: Global) -> Result<Vec<u32>, AllocError> {
+    vec![in alloc; 0; 65552]
 }
 
 // Kind 1, height 1.
@@ -235,15 +230,14 @@ fn sort_word(i: usize) -> u32 {
 
 // Rows that are sort 0, all of them.
 fn sorts(words: &mut [u32]) {
-    let mut i = 0;
-    while i < words.len() {
-        words[i] = sort_word(i);
-        i += 1;
+    for (i, word) in words.iter_mut().enumerate() {
+        *word = sort_word(i);
     }
 }
 
 // Lists of this many records, all right, at their maxima or one past.
 fn large_case(
+    rt: &(impl Print + AllocGlobal),
     rows: usize,
     decls: usize,
     rules: usize,
@@ -251,20 +245,13 @@ fn large_case(
     used: usize,
     mark: u32,
     depth: u32,
-) {
-    let mut words = many_words();
+) -> io::Result<()> {
+    let mut words = many_words(rt.alloc())?;
     sorts(&mut words);
-    let zeros = many_zeros();
-    io::write_all(STDOUT_FILENO, b"large");
-    write_number(rows as u64);
-    write_number(decls as u64);
-    write_number(rules as u64);
-    write_number(records as u64);
-    write_number(used as u64);
-    write_number(mark as u64);
-    write_number(depth as u64);
+    let zeros = many_zeros(rt.alloc())?;
+    print!(rt; "large {rows} {decls} {rules} {records} {used} {mark} {depth}")?;
     let term = Ptr { row: 0, shift: 0 };
-    write_verdict(tables::accept::accept(
+    let verdict = tables::accept::accept(
         first(&words, rows),
         first(&zeros, decls),
         first(&words, rules),
@@ -275,77 +262,78 @@ fn large_case(
         term,
         1000000,
         500,
-    ));
+    );
+    write_verdict(rt, verdict)
 }
 
-fn values(list: u32, at: usize) {
-    word_case(list, at, 0);
-    word_case(list, at, 1);
-    word_case(list, at, 2);
-    word_case(list, at, 3);
-    word_case(list, at, 4);
-    word_case(list, at, 6);
-    word_case(list, at, 15);
-    word_case(list, at, 16);
-    word_case(list, at, 17);
-    word_case(list, at, 64);
-    word_case(list, at, 65);
-    word_case(list, at, 4294967295);
+fn values(rt: &impl Print, list: u32, at: usize) -> io::Result<()> {
+    word_case(rt, list, at, 0)?;
+    word_case(rt, list, at, 1)?;
+    word_case(rt, list, at, 2)?;
+    word_case(rt, list, at, 3)?;
+    word_case(rt, list, at, 4)?;
+    word_case(rt, list, at, 6)?;
+    word_case(rt, list, at, 15)?;
+    word_case(rt, list, at, 16)?;
+    word_case(rt, list, at, 17)?;
+    word_case(rt, list, at, 64)?;
+    word_case(rt, list, at, 65)?;
+    word_case(rt, list, at, 4294967295)
 }
 
-fn words_from(list: u32, from: usize, to: usize) {
-    let mut at = from;
-    while at < to {
-        values(list, at);
-        at += 1;
+fn words_from(rt: &impl Print, list: u32, from: usize, to: usize) -> io::Result<()> {
+    for at in from..to {
+        values(rt, list, at)?;
     }
+    Ok(())
 }
 
-fn pairs() {
+fn pairs(rt: &impl Print) -> io::Result<()> {
     // 64 rules and 65; the last rule and one past; a sum of 2^32
-    pair_case(61, 1, 62, 64);
-    pair_case(61, 1, 62, 65);
-    pair_case(61, 5, 62, 64);
-    pair_case(61, 6, 62, 64);
-    pair_case(61, 7, 62, 64);
-    pair_case(61, 70, 62, 0);
-    pair_case(61, 71, 62, 0);
-    pair_case(61, 4294967295, 62, 1);
+    pair_case(rt, 61, 1, 62, 64)?;
+    pair_case(rt, 61, 1, 62, 65)?;
+    pair_case(rt, 61, 5, 62, 64)?;
+    pair_case(rt, 61, 6, 62, 64)?;
+    pair_case(rt, 61, 7, 62, 64)?;
+    pair_case(rt, 61, 70, 62, 0)?;
+    pair_case(rt, 61, 71, 62, 0)?;
+    pair_case(rt, 61, 4294967295, 62, 1)?;
     // a role held twice, a K flag below it and above it
-    pair_case(23, 1, 60, 0);
-    pair_case(23, 1, 60, 1);
-    pair_case(87, 3, 60, 1);
-    pair_case(87, 3, 39, 0);
-    pair_case(39, 0, 87, 0);
+    pair_case(rt, 23, 1, 60, 0)?;
+    pair_case(rt, 23, 1, 60, 1)?;
+    pair_case(rt, 87, 3, 60, 1)?;
+    pair_case(rt, 87, 3, 39, 0)?;
+    pair_case(rt, 39, 0, 87, 0)?;
     // a value and its flag
-    pair_case(4, 1, 5, 2);
-    pair_case(4, 1, 5, 1);
-    pair_case(4, 1, 6, 1);
-    pair_case(84, 0, 85, 0);
-    pair_case(84, 0, 86, 1);
+    pair_case(rt, 4, 1, 5, 2)?;
+    pair_case(rt, 4, 1, 5, 1)?;
+    pair_case(rt, 4, 1, 6, 1)?;
+    pair_case(rt, 84, 0, 85, 0)?;
+    pair_case(rt, 84, 0, 86, 1)
 }
 
-fn numbers() {
+fn numbers(rt: &impl Print) -> io::Result<()> {
     let term = Ptr { row: 5, shift: 0 };
     let closed = Ptr { row: 2, shift: 0 };
-    number_case(0, 0, closed, 0, 0);
-    number_case(0, 2, term, 7, 3);
-    number_case(1, 2, term, 7, 3);
-    number_case(3, 2, term, 7, 3);
-    number_case(4, 2, term, 7, 3);
-    number_case(4294967295, 2, term, 7, 3);
-    number_case(2, 0, term, 7, 3);
-    number_case(2, 1, term, 7, 3);
-    number_case(2, 3, term, 7, 3);
-    number_case(2, 4, term, 7, 3);
-    number_case(2, 4294967295, term, 7, 3);
-    number_case(2, 2, closed, 1000000, 500);
-    number_case(2, 2, closed, 1000001, 500);
-    number_case(2, 2, closed, 1000000, 501);
-    number_case(2, 2, Ptr { row: 2, shift: 1 }, 7, 3);
-    number_case(2, 2, Ptr { row: 1, shift: 1 }, 7, 3);
-    number_case(2, 2, Ptr { row: 1, shift: 2 }, 7, 3);
+    number_case(rt, 0, 0, closed, 0, 0)?;
+    number_case(rt, 0, 2, term, 7, 3)?;
+    number_case(rt, 1, 2, term, 7, 3)?;
+    number_case(rt, 3, 2, term, 7, 3)?;
+    number_case(rt, 4, 2, term, 7, 3)?;
+    number_case(rt, 4294967295, 2, term, 7, 3)?;
+    number_case(rt, 2, 0, term, 7, 3)?;
+    number_case(rt, 2, 1, term, 7, 3)?;
+    number_case(rt, 2, 3, term, 7, 3)?;
+    number_case(rt, 2, 4, term, 7, 3)?;
+    number_case(rt, 2, 4294967295, term, 7, 3)?;
+    number_case(rt, 2, 2, closed, 1000000, 500)?;
+    number_case(rt, 2, 2, closed, 1000001, 500)?;
+    number_case(rt, 2, 2, closed, 1000000, 501)?;
+    number_case(rt, 2, 2, Ptr { row: 2, shift: 1 }, 7, 3)?;
+    number_case(rt, 2, 2, Ptr { row: 1, shift: 1 }, 7, 3)?;
+    number_case(rt, 2, 2, Ptr { row: 1, shift: 2 }, 7, 3)?;
     number_case(
+        rt,
         2,
         2,
         Ptr {
@@ -354,54 +342,54 @@ fn numbers() {
         },
         7,
         3,
-    );
-    number_case(2, 2, Ptr { row: 6, shift: 0 }, 7, 3);
+    )?;
+    number_case(rt, 2, 2, Ptr { row: 6, shift: 0 }, 7, 3)
 }
 
-fn lengths() {
-    length_case(36, 96, 280, 15, 27);
-    length_case(35, 96, 280, 15, 27);
-    length_case(27, 96, 280, 15, 27);
-    length_case(36, 95, 280, 15, 27);
-    length_case(36, 80, 280, 15, 27);
-    length_case(36, 16, 280, 15, 27);
-    length_case(36, 0, 280, 15, 27);
-    length_case(36, 96, 279, 15, 27);
-    length_case(36, 96, 8, 15, 27);
-    length_case(36, 96, 12, 15, 27);
-    length_case(36, 96, 280, 14, 27);
-    length_case(36, 96, 280, 10, 27);
-    length_case(36, 96, 280, 5, 27);
-    length_case(36, 96, 280, 15, 26);
-    length_case(36, 96, 280, 15, 18);
-    length_case(36, 96, 280, 15, 9);
+fn lengths(rt: &impl Print) -> io::Result<()> {
+    length_case(rt, 36, 96, 280, 15, 27)?;
+    length_case(rt, 35, 96, 280, 15, 27)?;
+    length_case(rt, 27, 96, 280, 15, 27)?;
+    length_case(rt, 36, 95, 280, 15, 27)?;
+    length_case(rt, 36, 80, 280, 15, 27)?;
+    length_case(rt, 36, 16, 280, 15, 27)?;
+    length_case(rt, 36, 0, 280, 15, 27)?;
+    length_case(rt, 36, 96, 279, 15, 27)?;
+    length_case(rt, 36, 96, 8, 15, 27)?;
+    length_case(rt, 36, 96, 12, 15, 27)?;
+    length_case(rt, 36, 96, 280, 14, 27)?;
+    length_case(rt, 36, 96, 280, 10, 27)?;
+    length_case(rt, 36, 96, 280, 5, 27)?;
+    length_case(rt, 36, 96, 280, 15, 26)?;
+    length_case(rt, 36, 96, 280, 15, 18)?;
+    length_case(rt, 36, 96, 280, 15, 9)
 }
 
-fn maxima() {
-    large_case(589824, 65536, 1048576, 20480, 589824, 65536, 4096);
-    large_case(589833, 65536, 1048576, 20480, 589824, 65536, 4096);
-    large_case(589824, 65552, 1048576, 20480, 589824, 65536, 4096);
-    large_case(589824, 65536, 1048580, 20480, 589824, 65536, 4096);
-    large_case(589824, 65536, 1048576, 20485, 589824, 65536, 4096);
-    large_case(589824, 65536, 1048576, 20480, 589833, 65536, 4096);
-    large_case(589824, 65536, 1048576, 20480, 589824, 65537, 4096);
-    large_case(589824, 65536, 1048576, 20480, 589824, 65536, 4097);
-    large_case(9, 0, 0, 0, 0, 0, 0);
-    large_case(0, 0, 0, 0, 9, 1, 0);
-    large_case(0, 16, 0, 0, 9, 1, 0);
-    large_case(0, 0, 0, 5, 9, 1, 1);
-    large_case(0, 0, 0, 0, 0, 0, 0);
+fn maxima(rt: &(impl Print + AllocGlobal)) -> io::Result<()> {
+    large_case(rt, 589824, 65536, 1048576, 20480, 589824, 65536, 4096)?;
+    large_case(rt, 589833, 65536, 1048576, 20480, 589824, 65536, 4096)?;
+    large_case(rt, 589824, 65552, 1048576, 20480, 589824, 65536, 4096)?;
+    large_case(rt, 589824, 65536, 1048580, 20480, 589824, 65536, 4096)?;
+    large_case(rt, 589824, 65536, 1048576, 20485, 589824, 65536, 4096)?;
+    large_case(rt, 589824, 65536, 1048576, 20480, 589833, 65536, 4096)?;
+    large_case(rt, 589824, 65536, 1048576, 20480, 589824, 65537, 4096)?;
+    large_case(rt, 589824, 65536, 1048576, 20480, 589824, 65536, 4097)?;
+    large_case(rt, 9, 0, 0, 0, 0, 0, 0)?;
+    large_case(rt, 0, 0, 0, 0, 9, 1, 0)?;
+    large_case(rt, 0, 16, 0, 0, 9, 1, 0)?;
+    large_case(rt, 0, 0, 0, 5, 9, 1, 1)?;
+    large_case(rt, 0, 0, 0, 0, 0, 0, 0)
 }
 
-fn main() {
-    words_from(DECLARATIONS, 0, 96);
-    words_from(RULES, 0, 12);
-    words_from(CONTEXT, 0, 15);
-    words_from(LIBRARY, 9, 18);
-    words_from(SCRATCH, 9, 18);
-    words_from(SCRATCH, 20, 21);
-    pairs();
-    numbers();
-    lengths();
-    maxima();
+fn main(rt: HostRuntime) -> io::Result<()> {
+    words_from(&rt, DECLARATIONS, 0, 96)?;
+    words_from(&rt, RULES, 0, 12)?;
+    words_from(&rt, CONTEXT, 0, 15)?;
+    words_from(&rt, LIBRARY, 9, 18)?;
+    words_from(&rt, SCRATCH, 9, 18)?;
+    words_from(&rt, SCRATCH, 20, 21)?;
+    pairs(&rt)?;
+    numbers(&rt)?;
+    lengths(&rt)?;
+    maxima(&rt)
 }

@@ -1,0 +1,7 @@
+-- What it hands the row writer is due: a let of three rows of the table.
+use Rattle.std.proofs.Common.{arith}
+use Rattle.rows.proofs.DueRows.{let_due}
+use Rattle.rows_run.proofs.make_let.Goals as goal
+
+pub make-out-requires-clause-due : goal.make-out-requires-clause-due
+make-out-requires-clause-due g c = let_due _ _ _ _ (omega arith) (omega arith) (omega arith)
