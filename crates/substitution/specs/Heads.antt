@@ -9,11 +9,11 @@ use Rattle.rules.specs.Rows.{Ptr, node, Store, row_at, up, Got}
 use Rattle.rules.specs.RowCheck.{FieldOk}
 use Rattle.rules.specs.Replacement.{Replaces}
 use Rattle.rules.specs.ReadOut.{Tree, lam, pi, let', shift, subst, Reads, ReadsRow, reads_lam, reads_pi, reads_let}
-use Rattle.substitution.specs.TreeLaws.{shift_zero}
+use Rattle.substitution.specs.TreeLaws.{move_some, shift_zero}
 use Rattle.substitution.specs.Stores.{FieldsOk, first_ok, second_ok, third_ok, term_child, body_child, Formed, Good, fields_at, up_child}
 use Rattle.substitution.specs.Reading.{at_row}
 use Rattle.substitution.specs.Bounds.{reads_up}
-use Rattle.substitution.specs.Replacing.{Replaced, replace_none_reads, replace_some_reads}
+use Rattle.substitution.specs.Replacing.{Replaced, a_value, replace_moves, replace_none_reads}
 
 -- UNDER A BINDER
 
@@ -24,12 +24,14 @@ pub record BodyReads (s : Store) (b : Ptr) (k : ℕ) (body : Tree) : Type 0 wher
   pub reads : Reads s b base
   pub is : shift k 1 base ≡ body
 
--- a value put in: the shift is replacement's move, and the value is not moved by it
+-- a value put in: the shift is replacement's move, and the value is not moved by it. Shown from replace_moves, so that nothing in specs/ rests on
+-- replace_some_reads, whose statement edits of must-fail/ change.
 pub body_given : {s : Store} {b a : Ptr} {k : ℕ} {body u : Tree} {g : Got} →
     Formed s → BodyReads s b k body → Good s a → Reads s a u → Replaces (some a) k 0 s b g → Replaced s g (subst u 0 body)
 body_given {s} {k = k} {u = u} {g} f b o r q =
     along (λ (t : Tree). Replaced s g (subst u 0 t)) b.is
-    (along (λ (v : Tree). Replaced s g (subst v 0 (shift k 1 b.base))) (shift_zero 0 u) (replace_some_reads f b.good o b.reads r q))
+    (along (λ (v : Tree). Replaced s g (subst v 0 (shift k 1 b.base))) (shift_zero 0 u)
+    (along (Replaced s g) (move_some u k 0 b.base) (replace_moves f b.good (a_value o r) b.reads q)))
 
 -- opened as it stands
 pub body_opened : {s : Store} {b : Ptr} {k : ℕ} {body : Tree} {g : Got} → Formed s → BodyReads s b k body → Replaces none k 1 s b g → Replaced s g body
