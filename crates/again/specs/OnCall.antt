@@ -1,5 +1,5 @@
--- A call's answer, asked again, is itself: for accepted input the store is formed, the term good and the environment's pointers stand in the store.
--- Assumes that the words are accepted, and nothing else.
+-- For accepted input the store is formed, the term good and the environment's pointers stand in the store; so a call's answer, asked again, is itself, in
+-- proofs/OnCall.antt. Assumes that the words are accepted, and nothing else.
 use Prim.Native.Nat.{ℕ, zero, suc, ◌-◌, ◌≤◌, ◌<◌}
 use Rattle.std.proofs.Common.{arith, sym, ap, ◌∙◌, subst}
 use Rattle.std.specs.Prelude.{◌≡◌, List, [], ◌∷◌, length}
@@ -10,14 +10,10 @@ use Rattle.rules.specs.Rows.{Ptr, blank, Store}
 use Rattle.rules.specs.RowCheck.{AllPass}
 use Rattle.rules.specs.Declarations.{no_role, Rule, Recursor, Form, plain, recursor, Decl, Entry, Env, nth, decl_at, value_on, value_of}
 use Rattle.rules.specs.Accepted.{Lent, Closed, FormOk, recursor_ok, library_rows, declaration_count, Accepted}
-use Rattle.rules.specs.Firings.{Tally, tally}
-use Rattle.rules.specs.HeadRules.{Reduces}
-use Rattle.rules.specs.Refusals.{Limits, Within}
 use Rattle.substitution.specs.Places.{Place, below, here, past, place}
 use Rattle.substitution.specs.Stores.{Formed, Good, scope_good}
 use Rattle.substitution.specs.Passing.{pass_formed}
 use Rattle.again.specs.Keeps.{EnvStands}
-use Rattle.again.specs.Again.{AnsweredAgain, answers_itself}
 
 none_some : {A : Type 0} {a : A} → none ≡ some a → ⊥
 none_some {A} {a} q = let n : ◌≡◌ {A = ℕ} 0 1 = cc in omega arith
@@ -81,7 +77,3 @@ module _ {w : Lent} {e : Env} {s : Store} (a : Accepted w e s) where
     rule = λ d o. declared_rule d o (place d (length e.decls));
     context = λ i v q. record_value (length e.context - suc i) v (nth e.context (length e.context - suc i)) refl q;
   }
-
-  -- whatever the rules answer to the call, asked again within the same budgets is its own answer
-  pub call_again : {lim : Limits} {n : ℕ} {m : Tally} {t' : Ptr} → Reduces e n (tally 0 s) w.term m t' → Within lim m → AnsweredAgain e lim n s m t'
-  call_again r h = answers_itself accepted_formed (scope_good a.term) accepted_stands r h

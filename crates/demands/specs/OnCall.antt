@@ -16,7 +16,7 @@ use Rattle.safety.specs.Answers.{answers_same, never_both, larger_budgets, untou
 use Rattle.safety.specs.Unique.{accepted_same}
 use Rattle.safety.specs.Unique as unique
 use Rattle.again.specs.Again.{room_again}
-use Rattle.again.specs.OnCall.{call_again}
+use Rattle.again.proofs.OnCall.{call_again}
 
 -- where the rules answer a term, the call does
 pub call_answers : {w : Lent} {e : Env} {s s' : Store} {t : Ptr} {k : ℕ} {x : Answer} {l : Left} → Accepted w e s →

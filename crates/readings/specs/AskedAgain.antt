@@ -15,7 +15,7 @@ use Rattle.safety.specs.Sane.{Ready, accepted_ready}
 use Rattle.safety.specs.Keeps.{Leaves, runs_keep}
 use Rattle.safety.specs.Answers.{answered_eval, eval_answered}
 use Rattle.again.specs.Again.{room_again, AnsweredAgain, answered_again}
-use Rattle.again.specs.OnCall.{call_again}
+use Rattle.again.proofs.OnCall.{call_again}
 
 -- t, the answer of a call that went from s to m, is asked again with the same steps and nesting and as many free rows as the call had
 pub record ItsOwnAnswer (e : Env) (lim : Limits) (n : ℕ) (s : Store) (m : Tally) (t : Ptr) : Type 0 where
