@@ -1,5 +1,5 @@
 -- What is believed stands in the crate rules. Here any words are accepted or refused (`acceptance_decides` in Accepting.antt), and so every call has
--- an answer (`demand_one` in DemandOne.antt): read the latter first.
+-- an answer (`demand_one` in proofs/DemandOne.antt): read the latter first.
 pub mod Decisions
 pub mod WordsOut
 pub mod RowsDecided
