@@ -8,7 +8,7 @@ then runs the program, writes a line for each instruction, and the lines are cou
 import os, platform, re, subprocess, sys, tempfile, time
 
 ROOT = os.path.dirname(os.path.dirname(os.path.abspath(__file__)))
-PROGRAM = os.path.join(ROOT, "target", "bin", "run")
+PROGRAM = os.path.join(ROOT, "crates", "run", "out", "run")
 SIZES = [1000, 8000, 64000]
 # Under the emulator a count for the largest library takes an hour: reading its text is what costs.
 COUNTED = SIZES if platform.machine() == "x86_64" else SIZES[:2]

@@ -2,7 +2,7 @@
 -- The first table has document 01's own lines on inference; each line of the second says in words what it shows.
 use Rattle.std.specs.Prelude.{ℕ, ◌+◌, ◌≡◌, refl, List, [], ◌∷◌, map, length}
 use Rattle.std.proofs.Math.Option.{Option, none, some}
-use Rattle.rules.specs.Kinds.{sort, const, app, lam, pi, let', proj, num}
+use Rattle.rules.specs.Kinds.{sort, const, lam, pi, let', proj, num}
 use Rattle.rules.specs.Rows.{Ptr, ptr, blank, var, node, leaf, Store, grow}
 use Rattle.rules.specs.Arithmetic.{mul}
 use Rattle.rules.specs.Refusals.{Limits}

@@ -9,7 +9,7 @@ use mathlib.Core.Option.{Option, none, some}
 use lib.ListN.{length}
 use Rattle.rules.specs.Maxima.{most_number}
 use Rattle.rules.specs.Kinds.{Kind, const, app, num, plain, tags, table, fields}
-use Rattle.rules.specs.Rows.{Ptr, ptr, blank, Row, node, leaf, Cell, Store, cell_at, row_at, bound, up, field_bound, cell, grow, Got, got, put}
+use Rattle.rules.specs.Rows.{Ptr, ptr, blank, Row, node, leaf, Cell, Store, cell_at, row_at, up, field_bound, cell, grow, Got, got, put}
 use Rattle.rules.specs.RowCheck.{InRange, sort_in, const_in, app_in, lam_in, pi_in, let_in, proj_in, num_in, plain_ok, RowOk, var_ok, node_ok, AllPass, InScope}
 use Rattle.rules.specs.Spines.{Spine, head, through, NoApp, no_const, joined}
 use Rattle.rules.specs.Firings.{a_number, a_constant}

@@ -25,7 +25,7 @@ use Rattle.state.specs.declared.Meter.{Meter}
 use Rattle.state.specs.declared.Reduced.{Reduced}
 use Rattle.state.specs.declared.Reduced.TheVariants.{Refused}
 use Rattle.typing.specs.Here.{Here, later, depth_at, store_at, limits_at, res_at, Scope, Ready, After}
-use Rattle.typing.specs.Gives.{Outcome, gave, refused, outcome_of, then_on, Value, Gives, GivesPtr}
+use Rattle.typing.specs.Gives.{outcome_of, Value, Gives, GivesPtr}
 use Rattle.typing.specs.Pieces.{PiParts, PiIn, pi_ask}
 use Rattle.typing.specs.Written.{Written}
 use Rattle.typing.proofs.Places.{At, begins, goes_on, stops, piece_stops, piece_by_piece}

@@ -10,7 +10,7 @@ use Rattle.rules.specs.Rows as rules
 use Rattle.rules.specs.Rows.{Row, var, node, leaf, Store, row_at}
 use Rattle.rules.specs.Declarations.{Form, plain, constructor, recursor, structure, Decl, Env, decl_at}
 use Rattle.rules.specs.Accepted.{part}
-use Rattle.course.specs.Eval.{Res, no, Spined}
+use Rattle.course.specs.Eval.{Res, no}
 use Rattle.substitution.specs.Stores.{scope_good}
 use Rattle.substitution.specs.Passing.{pass_formed}
 use Rattle.safety.specs.Scope.{none_in, spine_in}

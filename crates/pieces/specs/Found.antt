@@ -1,8 +1,6 @@
 -- The pieces' enums as outcomes. Assumes nothing: these are definitions.
-use Rattle.std.specs.Prelude.{ℕ, List}
-use Rattle.rules.specs.Rows as rules
+use Rattle.std.specs.Prelude.{ℕ}
 use Rattle.rows.specs.Words.{ptr_of}
-use Rattle.state.specs.declared.Meter.{Meter}
 use Rattle.state.specs.declared.Reduced.{Reduced}
 use Rattle.state.specs.declared.Reduced.TheVariants.{To, Refused}
 use Rattle.typing.specs.Gives.{Outcome, gave, refused}

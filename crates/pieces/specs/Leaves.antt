@@ -5,11 +5,9 @@ use Rattle.std.proofs.Math.Option.{some}
 use Rattle.rules.specs.Rows as rules
 use Rattle.rules.specs.Rows.{Store, cell_at}
 use Rattle.rules.specs.Declarations.{Decl, nth, decl_at}
-use Rattle.rules.specs.RowCheck.{InScope}
 use Rattle.rules.specs.Accepted.{part, Closed}
 use Rattle.course.specs.Charged.{replace_in}
 use Rattle.inferring.specs.Asks.{Ask, opens, structures, if_there, pi_of, variable_type, number_type}
-use Rattle.safety.specs.Sane.{decl_count}
 use Rattle.safety.specs.Scope.{AllIn}
 use Rattle.ways.specs.Spines.{args_of}
 use Rattle.rows.specs.declared.Ptr.{Ptr}
@@ -22,7 +20,7 @@ use Rattle.state.specs.declared.Given.{Given}
 use Rattle.state.specs.declared.Meter.{Meter}
 use Rattle.state.specs.declared.Reduced.{Reduced}
 use Rattle.state.specs.declared.Reduced.TheVariants.{To, Refused}
-use Rattle.typing.specs.Here.{Here, here, depth_at, env_at, store_at, Scope, Ready}
+use Rattle.typing.specs.Here.{Here, here, env_at, store_at, Scope, Ready}
 use Rattle.typing.specs.Gives.{Outcome, gave, refused, Gives, Infers}
 use Rattle.typing.specs.Written.{Written}
 use Rattle.pieces.specs.declared.StructureFound.{StructureFound}

@@ -11,7 +11,6 @@ use Rattle.rules.specs.Declarations as D
 use Rattle.rules.specs.Arithmetic.{Op, add, sub, mul, div, mod', beq, ble}
 use Rattle.rules.specs.Firings.{itself}
 use Rattle.rules.specs.HeadTests.{provided, as_constant, quot_position, QuotParts, quot_parts_of, quot_parts, third_of_three, quot_made}
-use Rattle.rules.specs.HeadTests.{made}
 use Rattle.rules.specs.HeadTests.{unfolds}
 use Rattle.rules.specs.HeadRules.{Constant}
 use Rattle.rules.specs.ReadOut.{Tree, const, shift, Reads, ReadsRow, reads_const}

@@ -7,10 +7,10 @@ use Rattle.rules.specs.Kinds as K
 use Rattle.rules.specs.Rows.{Ptr, ptr, blank, Row, node, leaf, Store, cell, grow, put}
 use Rattle.rules.specs.Declarations.{zero', succ', Rule, Recursor, Form, plain, constructor, recursor, structure, Decl, Env, nth, holder}
 use Rattle.rules.specs.Firings.{itself}
-use Rattle.rules.specs.HeadTests.{provided, as_constant, as_number, recursor_of, before_indices, major_position, RecParts, rec_parts_of, rec_parts, Made, made}
+use Rattle.rules.specs.HeadTests.{provided, as_constant, as_number, recursor_of, before_indices, major_position, RecParts, rec_parts_of, rec_parts, Made}
 use Rattle.rules.specs.HeadTests.{number_made, made_on, as_constructor, rule_on, rule_for, last_of, Ruled, ruled, by_rule}
 use Rattle.rules.specs.HeadRules.{Constant}
-use Rattle.rules.specs.ReadOut.{Tree, const, app, num, Reads, reads_const, reads_num}
+use Rattle.rules.specs.ReadOut.{Tree, num, Reads, reads_const, reads_num}
 use Rattle.substitution.specs.Stores.{Formed, Good, Ext, ext_then, ext_put, ext_good, put-length}
 use Rattle.substitution.specs.Reading.{reads_exists, reads_unique, reads_later}
 use Rattle.substitution.specs.Replacing.{put_reads}

@@ -12,7 +12,7 @@ use Rattle.rules.specs.Declarations.{Form, plain, constructor, recursor, structu
 use Rattle.rules.specs.Firings.{Result, opened, itself, Due}
 use Rattle.rules.specs.HeadTests.{as_constant, parameters_of, field_at}
 use Rattle.rules.specs.HeadRules.{Head}
-use Rattle.rules.specs.ReadOut.{Tree, var, lam, let', proj, shift, subst, Reads, ReadsRow, reads_var, reads_proj}
+use Rattle.rules.specs.ReadOut.{Tree, var, lam, proj, shift, subst, Reads, ReadsRow, reads_var, reads_proj}
 use Rattle.substitution.specs.Trees.{shift_high}
 use Rattle.substitution.specs.Stores.{FieldsOk, first_ok, term_child, Formed, Good, fields_at, Ext, ext_good, up_child}
 use Rattle.substitution.specs.Reading.{reads_exists, reads_unique, reads_later, RowReads, at_row}

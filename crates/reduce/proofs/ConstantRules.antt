@@ -2,9 +2,8 @@
 -- Assumes what `constant` is given.
 use Prim.Native.Nat.{ℕ, ◌+◌, ◌/◌, ◌<◌}
 use mathlib.Core.Path.{◌≡◌, sym, ap, ◌∙◌, subst}
-use mathlib.Core.List.{List, [], ◌∷◌}
+use mathlib.Core.List.{List}
 use lib.ListN.{length}
-use denote.Enum.Declared.{tag_of}
 use Rattle.rules.specs.Rows as rules
 use Rattle.rules.specs.Accepted.{part}
 use Rattle.rules.specs.Declarations.{Decl, Env, decl_at}
@@ -20,7 +19,6 @@ use Rattle.state.specs.declared.Given.{Given}
 use Rattle.state.specs.declared.Meter.{Meter}
 use Rattle.state.specs.declared.Answer.{Answer}
 use Rattle.state.specs.declared.Answer.TheVariants.{Final}
-use Rattle.state.specs.contracts.Answer.{the_type}
 use Rattle.state.specs.State.{tally_of, limits_in, Left}
 use Rattle.firing.specs.Fires.{unfold_step, unfolds_to}
 use Rattle.cycle.specs.Cycle.{Counted}

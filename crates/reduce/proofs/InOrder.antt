@@ -2,8 +2,7 @@
 -- rule that is tried there, or past it to the next. Assumes what `constant` is given.
 use Prim.Native.Nat.{ℕ}
 use mathlib.Core.Path.{◌≡◌, refl, ap}
-use mathlib.Core.List.{List, [], ◌∷◌}
-use denote.Enum.Declared.{tag_of}
+use mathlib.Core.List.{List}
 use Rattle.rules.specs.Rows as rules
 use Rattle.rules.specs.Declarations.{Env}
 use Rattle.course.specs.Tries.{Try, ◌or_else◌}
@@ -18,7 +17,6 @@ use Rattle.state.specs.declared.Given.{Given}
 use Rattle.state.specs.declared.Meter.{Meter}
 use Rattle.state.specs.declared.Answer.{Answer}
 use Rattle.state.specs.declared.Answer.TheVariants.{Term, Final, Refused}
-use Rattle.state.specs.contracts.Answer.{the_type}
 use Rattle.state.specs.State.{Left}
 use Rattle.cycle.specs.Cycle.{Counted}
 use Rattle.cycle.proofs.WaysOut.{left_as}

@@ -2,13 +2,13 @@
 use Rattle.std.specs.Prelude.{ℕ, zero, suc, ◌+◌, ◌≤◌, ◌<◌, ◌≡◌, Bool, true, false, List, [], ◌∷◌}
 use Rattle.std.proofs.Math.Option.{Option, none, some}
 use Rattle.rules.specs.Maxima.{most_level}
-use Rattle.rules.specs.Kinds.{Kind, sort, const, app, lam, pi, let', proj, num}
+use Rattle.rules.specs.Kinds.{sort, const, app, lam, pi, let', proj, num}
 use Rattle.rules.specs.Rows.{Ptr, blank, Row, var, node, leaf, Cell, Store, row_at, bound, up, Got, put}
 use Rattle.rules.specs.Declarations.{nat, Decl, Env, decl_at, holder}
 use Rattle.rules.specs.Replacement.{Replaces}
 use Rattle.rules.specs.Firings.{Tally, tally, opened, Pays}
 use Rattle.rules.specs.Refusals.{Demand, step, row, level, RowDue, Asks, SideMeets, Limits, Within, Fails}
-use Rattle.rules.specs.Inference.{type_of, under, imax, Puts, Opens, Body, moved, Reduced, ToSort, ToPi, OfStructure}
+use Rattle.rules.specs.Inference.{type_of, under, imax, Puts, Opens, Body, Reduced, ToSort, ToPi, OfStructure}
 use Rattle.rules.specs.Inference.{Infers, Part, IsProp, Parameters, Earlier, Allowed}
 
 -- what a course of inference asks for: what a reduction asks for; a form that has a type; a sort's level; a spare record

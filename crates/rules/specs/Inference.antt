@@ -3,9 +3,9 @@
 use Rattle.std.specs.Prelude.{ℕ, zero, suc, ◌+◌, ◌-◌, ◌≤◌, ◌<◌, max, ◌≡◌, Bool, true, false, List, [], ◌∷◌, ◌++◌, length}
 use Rattle.std.proofs.Math.Option.{Option, none, some}
 use Rattle.rules.specs.Maxima.{most_level}
-use Rattle.rules.specs.Kinds.{Kind, sort, const, app, lam, pi, let', proj, num}
+use Rattle.rules.specs.Kinds.{sort, const, app, lam, pi, let', proj, num}
 use Rattle.rules.specs.Rows.{Ptr, blank, Row, var, node, leaf, Store, row_at, bound, up, Got, put}
-use Rattle.rules.specs.Declarations.{nat, Form, structure, Decl, Entry, Env, nth, decl_at, holder}
+use Rattle.rules.specs.Declarations.{nat, structure, Decl, Entry, Env, nth, decl_at, holder}
 use Rattle.rules.specs.Replacement.{Replaces}
 use Rattle.rules.specs.Firings.{Tally, tally, opened, Written, Pays}
 use Rattle.rules.specs.HeadRules.{Head, Reduces}

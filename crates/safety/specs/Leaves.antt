@@ -7,7 +7,7 @@ use Rattle.rules.specs.RowCheck.{InScope}
 use Rattle.rules.specs.Declarations.{Env}
 use Rattle.rules.specs.Firings.{Tally, Result, Pays}
 use Rattle.rules.specs.Refusals.{Limits, Within}
-use Rattle.course.specs.Tries.{Try, missed, firing, Comes}
+use Rattle.course.specs.Tries.{Try, firing, Comes}
 use Rattle.course.specs.Eval.{ok, try, fire, side_at}
 use Rattle.course.specs.Eval as E
 use Rattle.substitution.specs.Stores.{Ext, ext_then}

@@ -5,7 +5,7 @@ use Rattle.std.proofs.Common.{arith, ap, subst}
 use Rattle.std.proofs.Math.Option.{Option, none, some}
 use Rattle.rules.specs.Maxima.{most_number}
 use Rattle.rules.specs.Kinds.{const, app, num, table, fields}
-use Rattle.rules.specs.Rows.{Ptr, ptr, blank, Row, node, leaf, Cell, Store, cell, bound_on, bound, field_bound, grow, put}
+use Rattle.rules.specs.Rows.{Ptr, ptr, blank, Row, node, leaf, Cell, Store, cell, bound_on, field_bound, grow, put}
 use Rattle.rules.specs.RowCheck.{sort_in, const_in, app_in, lam_in, pi_in, let_in, proj_in, num_in, AllPass, InScope}
 use Rattle.rules.specs.Declarations.{zero', succ', true', false', quot_mk, role_code, Rule, Recursor, Form, plain, constructor, recursor, structure}
 use Rattle.rules.specs.Declarations.{Decl, Env, nth, decl_at, holder}

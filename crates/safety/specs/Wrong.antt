@@ -7,7 +7,7 @@ use Rattle.rules.specs.Kinds.{sort, lam, let'}
 use Rattle.rules.specs.Rows.{Ptr, blank, Row, var, node, leaf, Store, cell, cell_at, row_at, grow}
 use Rattle.rules.specs.Declarations.{Decl, Env, nth}
 use Rattle.rules.specs.Spines.{NoApp, no_let, Spine, head}
-use Rattle.rules.specs.Firings.{Tally, tally}
+use Rattle.rules.specs.Firings.{Tally}
 use Rattle.rules.specs.Refusals.{Limits}
 use Rattle.rules.specs.Call.{Answer, term}
 use Rattle.course.specs.Eval.{Res, ok, no, lost, eval}

@@ -6,7 +6,7 @@ use Rattle.rules.specs.Kinds.{Kind, Tag, plain, term, body, table, fields}
 use Rattle.rules.specs.Kinds as K
 use Rattle.rules.specs.Rows.{Ptr, ptr, Row, node, Store, row_at}
 use Rattle.rules.specs.RowCheck.{FieldOk, plain_ok, term_ok, body_ok}
-use Rattle.rules.specs.ReadOut.{Tree, var, sort, const, app, lam, pi, let', proj, num, shift, Reads, shifted, ReadsRow, reads_var, reads_sort}
+use Rattle.rules.specs.ReadOut.{Tree, var, sort, app, lam, pi, proj, shift, Reads, shifted, ReadsRow, reads_var, reads_sort}
 use Rattle.rules.specs.ReadOut.{reads_const, reads_app, reads_lam, reads_pi, reads_let, reads_proj, reads_num}
 use Rattle.substitution.specs.Trees.{build, let_eq}
 use Rattle.substitution.specs.TreeLaws.{shift_zero}

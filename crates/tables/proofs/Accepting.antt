@@ -8,7 +8,7 @@ use lib.ListN.{length}
 use Rattle.rules.specs.Rows.{Store, cell_at}
 use Rattle.rules.specs.RowCheck.{InScope}
 use Rattle.rules.specs.Accepted.{Lent, IsDecl, IsEntry, DeclOk, EntryOk, Sizes, library_rows, declaration_count, RowsKept}
-use Rattle.rules.specs.Accepted.{DeclarationsKept, RecordsKept, Accepted, a_row, a_declaration, a_record, the_term}
+use Rattle.rules.specs.Accepted.{DeclarationsKept, RecordsKept, a_row, a_declaration, a_record, the_term}
 use Rattle.rows.specs.declared.row_check.Checked.{Checked}
 use Rattle.rows.specs.declared.row_check.Checked.TheVariants.{AllPass, Broken}
 use Rattle.rows.specs.Words.{whole, Held}

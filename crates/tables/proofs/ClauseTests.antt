@@ -9,7 +9,7 @@ use mathlib.Core.List.{List}
 use borrow.Author.Tests.{not-true, not-false}
 use lib.Dec.{eqb, leb}
 use lib.ListN.{length, get_or}
-use Rattle.rules.specs.Rows.{Ptr, ptr, blank, Store, cell_at, bound}
+use Rattle.rules.specs.Rows.{Ptr, ptr, blank, Store, cell_at}
 use Rattle.rules.specs.Accepted.{part, IsConstructor}
 use Rattle.rows.specs.Words.{ptr_of, Stands}
 use Rattle.rows.specs.Checks.{Says}

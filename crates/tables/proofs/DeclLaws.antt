@@ -8,7 +8,7 @@ use mathlib.Core.Option.{some}
 use lib.ListN.{length, get_or}
 use Rattle.rules.specs.Maxima.{most_levels}
 use Rattle.rules.specs.Rows.{Ptr, Store, cell_at}
-use Rattle.rules.specs.Declarations.{role_code, Rule, Form, constructor, Decl, nth, decl_at}
+use Rattle.rules.specs.Declarations.{role_code, Rule, Form, Decl, nth, decl_at}
 use Rattle.rules.specs.Accepted.{part, IsRule, rule_words, AreRules, IsForm, plain_words, constructor_words, recursor_words, structure_words, IsDecl}
 use Rattle.rules.specs.Accepted.{decl_words, Closed, IsConstructor, FormOk, plain_ok, constructor_ok, recursor_ok, structure_ok, DeclOk}
 use Rattle.tables.specs.Records.{records_from, records_many, records_nth}

@@ -5,7 +5,7 @@ use native.Mathlib.Omega.{arith}
 use mathlib.Core.Path.{◌≡◌}
 use lib.ListN.{length, get_or}
 use Rattle.rules.specs.Rows.{Store}
-use Rattle.rules.specs.Declarations.{Decl, Env}
+use Rattle.rules.specs.Declarations.{Env}
 use Rattle.rules.specs.Accepted.{Lent, part, library_rows, declaration_count, Accepted}
 use Rattle.tables.specs.declared.Decl as code
 use Rattle.tables.specs.Env.{decl_of}

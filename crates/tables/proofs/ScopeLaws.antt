@@ -5,7 +5,7 @@ use native.Mathlib.Omega.{arith}
 use mathlib.Core.Path.{◌≡◌, refl, sym, ap, subst, ◌∙◌}
 use mathlib.Core.Option.{Option, none, some}
 use lib.ListN.{length}
-use Rattle.rules.specs.Rows.{Ptr, ptr, Cell, Store, cell_at, bound, bound_on}
+use Rattle.rules.specs.Rows.{Ptr, ptr, Cell, Store, cell_at, bound_on}
 use Rattle.rules.specs.RowCheck.{InScope}
 use Rattle.rules.specs.Accepted.{Closed, IsValue, absent, present}
 use Rattle.tables.specs.Env.{value_by}

@@ -1,7 +1,7 @@
 -- The call goes on in the same environment: what an ask comes to later is computed with the limits, records and spare records of the start.
 -- Assumes that the first records and the lengths were kept.
 use Prim.Native.Nat.{ℕ, ◌+◌, ◌-◌, ◌/◌, ◌≤◌}
-use mathlib.Core.Path.{◌≡◌, refl, sym, ap, ap₂, ◌∙◌, subst}
+use mathlib.Core.Path.{◌≡◌, ap, ap₂, ◌∙◌}
 use mathlib.Core.List.{List}
 use lib.ListN.{length}
 use Rattle.rules.specs.RowCheck.{AllPass}

@@ -1,7 +1,7 @@
 -- Lambdas and pis: from place to place, and each way out. A module for each form; its parameters are what the pieces before have given.
 -- Assumes what a member is given.
-use Prim.Native.Nat.{ℕ, suc}
-use mathlib.Core.Path.{◌≡◌, refl}
+use Prim.Native.Nat.{ℕ}
+use mathlib.Core.Path.{◌≡◌}
 use mathlib.Core.List.{List}
 use mathlib.Core.Option.{none, some}
 use Rattle.rules.specs.Kinds.{sort, pi}

@@ -1,16 +1,13 @@
 -- From the cycle's promise to the call's: accepted input is what `infer` is given, and what it answers is what the rules of inference say, with
 -- the rows and the records that they leave. Assumes accepted input.
 use Prim.Native.Nat.{ℕ, suc, ◌+◌, ◌*◌, ◌-◌, ◌/◌, ◌≤◌}
-use native.Mathlib.Omega.{arith}
 use mathlib.Core.Path.{◌≡◌, refl, sym, ap, ap₂, ◌∙◌}
 use mathlib.Core.List.{List, ◌++◌}
 use lib.ListN.{length, take, replicate}
-use Rattle.rules.specs.Rows as rules
 use Rattle.rules.specs.Accepted.{Lent, Accepted}
 use Rattle.rules.specs.Call as call
 use Rattle.rules.specs.Call.{limits_of}
 use Rattle.rules.specs.InferCall.{spare_records, Infer, refuses, answers}
-use Rattle.course.specs.Eval.{Res}
 use Rattle.inferring.specs.Asks.{asks}
 use Rattle.inferring.specs.Eval.{type_at, infer_eval}
 use Rattle.inferring.specs.Typed.{accepted_typed, accepted_infer_ready}
@@ -28,8 +25,8 @@ use Rattle.state.specs.declared.Reduced.TheVariants.{To, Refused}
 use Rattle.state.specs.State.{tally_of}
 use Rattle.cycle.proofs.Accepting.{accepted_asked}
 use Rattle.cycle.proofs.NewRows.{rows_counted, mark_moved, new_row_stands}
-use Rattle.typing.specs.Here.{Here, here, env_at, store_at, res_at, Scope, Ready, Keeps}
-use Rattle.typing.specs.Gives.{Outcome, outcome_of, res_by, Infers}
+use Rattle.typing.specs.Here.{Here, here, env_at, store_at, Scope, Ready}
+use Rattle.typing.specs.Gives.{outcome_of, res_by, Infers}
 
 module _ (l ds rs cs sc : List ℕ) (mark : ℕ) (p : Ptr) (nesting : ℕ) (g : Given) where
   abbrev lent : Lent

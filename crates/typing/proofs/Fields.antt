@@ -1,25 +1,23 @@
 -- The fields of a projection: an earlier one, the loop over them, and the chosen one; from place to place, and each way out.
 -- Assumes what a member is given.
-use Prim.Native.Nat.{ℕ, zero, suc, ◌+◌, ◌-◌, ◌≤◌, ◌<◌}
+use Prim.Native.Nat.{ℕ, zero, suc, ◌-◌, ◌≤◌, ◌<◌}
 use native.Mathlib.Nat.{sub-zero}
 use native.Mathlib.Omega.{arith}
-use mathlib.Core.Path.{◌≡◌, refl, sym, ap, ◌∙◌, subst}
+use mathlib.Core.Path.{◌≡◌, refl, subst}
 use mathlib.Core.List.{List}
-use mathlib.Core.Option.{none, some}
+use mathlib.Core.Option.{some}
 use Rattle.rules.specs.Kinds.{proj}
 use Rattle.rules.specs.Rows as rules
 use Rattle.rules.specs.Rows.{Store, blank, node, bound}
 use Rattle.rules.specs.RowCheck.{InScope}
 use Rattle.safety.specs.Sane.{in_later}
 use Rattle.safety.specs.Scope.{BodyIn}
-use Rattle.inferring.specs.Asks.{Ask, untyped, answers, writes, opens, is_zero, if_loose, pi_of, earlier, chosen}
+use Rattle.inferring.specs.Asks.{Ask, untyped, answers, writes, opens, is_zero, if_loose, earlier, chosen}
 use Rattle.state.specs.declared.Meter.{Meter}
 use Rattle.state.specs.declared.Reduced.{Reduced}
-use Rattle.state.specs.declared.Reduced.TheVariants.{To, Refused}
-use Rattle.rows.specs.declared.Ptr.{Ptr}
-use Rattle.rows.specs.Words.{ptr_of}
+use Rattle.state.specs.declared.Reduced.TheVariants.{Refused}
 use Rattle.typing.specs.Here.{Here, later, depth_at, store_at, res_at, Scope, Ready, After}
-use Rattle.typing.specs.Gives.{Outcome, gave, refused, outcome_of, Gives, GivesPtr, InAt, Infers}
+use Rattle.typing.specs.Gives.{Outcome, gave, refused, Gives, GivesPtr, InAt, Infers}
 use Rattle.typing.specs.Pieces.{PiParts, PiIn, pi_ask, allowed_ask}
 use Rattle.typing.specs.Fields.{earlier_field, chosen_of}
 use Rattle.typing.proofs.Places.{At, begins, goes_on, stops, keeps_then, piece_gives, piece_stops, piece_by_piece, form_stops, form_by_piece, nothing_after}

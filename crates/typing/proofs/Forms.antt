@@ -1,17 +1,16 @@
 -- Applications and lets: from place to place, and each way out. A module for each form; its parameters are what the pieces before have given.
 -- Assumes what a member is given.
 use Prim.Native.Nat.{ℕ, ◌≤◌, ◌<◌}
-use mathlib.Core.Path.{◌≡◌, refl}
+use mathlib.Core.Path.{◌≡◌}
 use mathlib.Core.List.{List}
 use mathlib.Core.Option.{none, some}
 use Rattle.rules.specs.Rows as rules
 use Rattle.rules.specs.Rows.{Store}
-use Rattle.rules.specs.RowCheck.{InScope}
-use Rattle.inferring.specs.Asks.{Ask, answers, infers, opens, pi_of, application_type, let_type}
+use Rattle.inferring.specs.Asks.{Ask, answers, infers, opens, application_type, let_type}
 use Rattle.state.specs.declared.Meter.{Meter}
 use Rattle.state.specs.declared.Reduced.{Reduced}
 use Rattle.state.specs.declared.Reduced.TheVariants.{Refused}
-use Rattle.typing.specs.Here.{Here, later, depth_at, store_at, res_at, Ready}
+use Rattle.typing.specs.Here.{Here, later, depth_at, res_at, Ready}
 use Rattle.typing.specs.Gives.{Outcome, gave, refused, outcome_of, Gives, InAt, Infers}
 use Rattle.typing.specs.Pieces.{PiParts, PiIn, pi_ask}
 use Rattle.typing.proofs.Places.{At, begins, goes_on, stops, form_stops, form_by_piece}

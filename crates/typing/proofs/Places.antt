@@ -1,16 +1,15 @@
 -- A member of inference's cycle goes from place to place: what is still asked from here on comes to the answer of the start.
 -- Shows that a piece's value leads to the next place, that its refusal is the answer of the whole, and that the last place is the answer.
 -- Assumes what a member is given.
-use Prim.Native.Nat.{ℕ, ◌+◌, ◌*◌, ◌-◌, ◌/◌, ◌≤◌}
-use native.Mathlib.Nat.{le_refl}
+use Prim.Native.Nat.{ℕ, ◌*◌, ◌≤◌}
 use native.Mathlib.Omega.{arith}
 use mathlib.Core.Path.{◌≡◌, refl, sym, ap, ◌∙◌, subst}
 use mathlib.Core.List.{List}
-use lib.ListN.{length, take}
+use lib.ListN.{take}
 use lib.Seq.{take-take}
 use Rattle.rules.specs.Rows as rules
 use Rattle.rules.specs.Rows.{Store}
-use Rattle.course.specs.Eval.{Res, ok, no}
+use Rattle.course.specs.Eval.{Res, no}
 use Rattle.substitution.specs.Stores.{Ext, ext_same, ext_then}
 use Rattle.inferring.specs.Asks.{Ask, answers}
 use Rattle.inferring.specs.Eval.{run}
@@ -19,9 +18,8 @@ use Rattle.rows.specs.Words.{ptr_of}
 use Rattle.state.specs.declared.Meter.{Meter}
 use Rattle.state.specs.declared.Reduced.{Reduced}
 use Rattle.state.specs.declared.Reduced.TheVariants.{To, Refused}
-use Rattle.cycle.specs.Cycle.{Passed}
 use Rattle.cycle.proofs.Standing.{nothing_passed, passed_on}
-use Rattle.typing.specs.Here.{Here, later, depth_at, store_at, tally_at, res_at, Scope, Ready, Kept, Keeps, After}
+use Rattle.typing.specs.Here.{Here, later, depth_at, store_at, res_at, Scope, Ready, Kept, Keeps, After}
 use Rattle.typing.specs.Gives.{Outcome, gave, refused, outcome_of, then_on, Value, Gives, InAt, res_by, Infers}
 
 -- WHAT IS KEPT, in turn

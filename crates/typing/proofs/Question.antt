@@ -7,15 +7,13 @@ use mathlib.Core.List.{List}
 use mathlib.Core.Option.{none}
 use Rattle.rules.specs.Rows as rules
 use Rattle.rules.specs.Rows.{Store}
-use Rattle.substitution.specs.Stores.{Ext}
 use Rattle.safety.specs.Sane.{in_later}
 use Rattle.inferring.specs.Asks.{Ask, untyped, infers, if_true, is_zero, sort_of, question, allowed}
-use Rattle.inferring.specs.Eval.{run}
 use Rattle.state.specs.declared.Meter.{Meter}
 use Rattle.typing.specs.Here.{Here, later, depth_at, store_at, res_at, Scope, Ready}
 use Rattle.typing.specs.Gives.{Outcome, gave, refused, Gives, InAt}
 use Rattle.typing.specs.Pieces.{LevelIn, level_ask, allowed_ask}
-use Rattle.typing.proofs.Places.{At, Stopped, begins, goes_on, stops, nothing_keeps, keeps_then, piece_gives, piece_stops, piece_by_piece}
+use Rattle.typing.proofs.Places.{At, begins, goes_on, stops, nothing_keeps, keeps_then, piece_gives, piece_stops, piece_by_piece}
 use Rattle.typing.proofs.Steps.{stepped, step_on_lem, no_step, no_type}
 
 module _ (n : ℕ) (h : Here) (ready : Ready h) (p : rules.Ptr) where

@@ -1,13 +1,11 @@
 -- Reductions and parts as asks: what a side reduction or the inference of a part answered is what the ask comes to.
 -- Assumes what a member is given.
-use Prim.Native.Nat.{ℕ, suc}
-use native.Mathlib.Omega.{arith}
+use Prim.Native.Nat.{ℕ}
 use mathlib.Core.Path.{◌≡◌, refl, sym, ap, ◌∙◌}
 use mathlib.Core.List.{List}
-use mathlib.Core.Option.{none, some}
+use mathlib.Core.Option.{none}
 use Rattle.rules.specs.Rows as rules
 use Rattle.rules.specs.Rows.{Store}
-use Rattle.rules.specs.RowCheck.{InScope}
 use Rattle.course.specs.Eval.{Res, ok, no, lost, side_at}
 use Rattle.inferring.specs.Asks.{Ask, answers, infers, reduces}
 use Rattle.inferring.specs.Eval as eval
@@ -19,7 +17,7 @@ use Rattle.state.specs.declared.Reduced.{Reduced}
 use Rattle.state.specs.declared.Reduced.TheVariants.{To, Refused}
 use Rattle.cycle.specs.Cycle.{Asked, Ran, res_as}
 use Rattle.cycle.proofs.Standing.{after_side, ran_passed}
-use Rattle.typing.specs.Here.{Here, later, depth_at, env_at, store_at, tally_at, limits_at, spare_at, res_at, Scope, Ready, Keeps, After}
+use Rattle.typing.specs.Here.{Here, later, depth_at, env_at, store_at, tally_at, limits_at, spare_at, res_at, Scope, Ready, Keeps}
 use Rattle.typing.specs.Gives.{Outcome, gave, refused, outcome_of, then_on, Value, Gives, GivesPtr, InAt, res_by}
 use Rattle.typing.specs.Pieces.{ran_with}
 use Rattle.typing.proofs.Places.{gave_apart, nothing_kept, value_is}

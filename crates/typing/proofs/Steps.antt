@@ -1,6 +1,6 @@
 -- Asks that no piece answers: a step, a part with no level left, a test; and a part, from the inference one level deeper.
 -- Assumes what a member is given.
-use Prim.Native.Nat.{ℕ, zero, suc, ◌+◌, ◌≤◌, ◌<◌}
+use Prim.Native.Nat.{ℕ, zero, suc, ◌≤◌, ◌<◌}
 use native.Mathlib.Omega.{arith}
 use mathlib.Core.Path.{◌≡◌, refl, sym, ap, ◌∙◌, subst}
 use mathlib.Core.List.{List}
@@ -14,9 +14,8 @@ use Rattle.inferring.specs.Eval.{run, step_on, type_at}
 use Rattle.state.specs.declared.Meter.{Meter}
 use Rattle.state.specs.declared.Reduced.{Reduced}
 use Rattle.state.specs.declared.Reduced.TheVariants.{Refused}
-use Rattle.typing.specs.Here.{Here, later, depth_at, env_at, store_at, tally_at, limits_at, spare_at, res_at, Ready, After}
-use Rattle.typing.specs.Gives.{Outcome, gave, refused, outcome_of, Gives, GivesPtr, InAt, res_by, Infers}
-use Rattle.typing.specs.Pieces.{ran_with}
+use Rattle.typing.specs.Here.{Here, later, depth_at, env_at, store_at, res_at, Ready, After}
+use Rattle.typing.specs.Gives.{refused, outcome_of, GivesPtr, InAt, Infers}
 use Rattle.typing.proofs.Places.{At, Stopped, after_then, after_keeps, nothing_after, nothing_keeps, gave_apart}
 use Rattle.typing.proofs.Reducing.{answer_gives, infers_is}
 

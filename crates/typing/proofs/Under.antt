@@ -1,8 +1,8 @@
 -- A body under a new record: 11 where none is spare; else the record is pushed, and what the part answers is what is asked outside.
 -- Assumes what a member is given.
-use Prim.Native.Nat.{ℕ, zero, suc, ◌+◌, ◌*◌, ◌-◌, ◌/◌, ◌≤◌, ◌<◌}
+use Prim.Native.Nat.{ℕ, suc, ◌+◌, ◌*◌, ◌≤◌, ◌<◌}
 use native.Mathlib.Omega.{arith}
-use mathlib.Core.Path.{◌≡◌, refl, sym, ap, ap₂, ◌∙◌, subst}
+use mathlib.Core.Path.{◌≡◌, refl, sym, ap, ◌∙◌, subst}
 use mathlib.Core.List.{List}
 use mathlib.Core.Option.{none, some}
 use lib.ListN.{length, take}
@@ -12,8 +12,7 @@ use Rattle.rules.specs.Rows.{Store}
 use Rattle.rules.specs.RowCheck.{InScope}
 use Rattle.rules.specs.Declarations.{Env}
 use Rattle.rules.specs.Inference.{under}
-use Rattle.course.specs.Eval.{Res, no}
-use Rattle.safety.specs.Sane.{depth_of, decl_count}
+use Rattle.course.specs.Eval.{no}
 use Rattle.inferring.specs.Asks.{Ask, infers}
 use Rattle.inferring.specs.Eval.{run, part_on, type_at}
 use Rattle.inferring.specs.Typed.{Typed, typed_under}
@@ -21,14 +20,14 @@ use Rattle.rows.specs.declared.Ptr.{Ptr}
 use Rattle.rows.specs.Words.{ptr_of}
 use Rattle.records.specs.Write.{pushed}
 use Rattle.records.proofs.Words.{push_keeps, push_length}
-use Rattle.records.proofs.Contexts.{env_kept, env_pushed}
+use Rattle.records.proofs.Contexts.{env_pushed}
 use Rattle.cycle.proofs.Standing.{depth_is}
 use Rattle.state.specs.declared.Meter.{Meter}
 use Rattle.state.specs.declared.Reduced.{Reduced}
 use Rattle.state.specs.declared.Reduced.TheVariants.{Refused}
-use Rattle.typing.specs.Here.{Here, here, later, depth_at, env_at, store_at, tally_at, limits_at, spare_at, res_at, Scope, Ready, Kept, Keeps, After}
-use Rattle.typing.specs.Gives.{Outcome, gave, refused, outcome_of, Value, Gives, GivesPtr, InAt, res_by}
-use Rattle.typing.specs.Pieces.{ran_with, deeper, within, Entered, UnderGives}
+use Rattle.typing.specs.Here.{Here, later, depth_at, env_at, store_at, tally_at, limits_at, spare_at, res_at, Scope, Ready, Kept, Keeps, After}
+use Rattle.typing.specs.Gives.{gave, refused, outcome_of, Value, GivesPtr, InAt, res_by}
+use Rattle.typing.specs.Pieces.{within, Entered, UnderGives}
 use Rattle.typing.proofs.Places.{nothing_keeps, gave_apart}
 use Rattle.typing.proofs.Alike.{env_alike, after_rows}
 use Rattle.typing.proofs.Reducing.{followed, answer_gives, part_is}

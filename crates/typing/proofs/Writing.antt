@@ -1,48 +1,47 @@
 -- Rows that inference writes: a row that was made, and a replacement, each as the ask that it answers.
 -- Assumes what a member is given.
-use Prim.Native.Nat.{ℕ, suc, ◌+◌, ◌*◌, ◌/◌, ◌≤◌}
+use Prim.Native.Nat.{ℕ}
 use native.Mathlib.Nat.{le_refl}
 use native.Mathlib.Omega.{arith}
-use mathlib.Core.Path.{◌≡◌, refl, sym, ap, ap₂, ◌∙◌, subst}
+use mathlib.Core.Path.{◌≡◌, refl, sym, ap, ◌∙◌, subst}
 use mathlib.Core.List.{List}
 use mathlib.Core.Option.{Option, none, some}
 use lib.ListN.{length}
 use lib.Seq.{drop-append_seam}
 use Rattle.rules.specs.Rows as rules
 use Rattle.rules.specs.Rows.{Row, Store, cell, cell_at, Got, got, put}
-use Rattle.rules.specs.RowCheck.{AllPass, InScope}
-use Rattle.rules.specs.Firings.{Tally, tally}
+use Rattle.rules.specs.RowCheck.{AllPass}
+use Rattle.rules.specs.Firings.{tally}
 use Rattle.rules.specs.Refusals.{Limits}
 use Rattle.rules.specs.Replacement.{Replaces}
 use Rattle.course.specs.Views.{Cmp, up_to, over, cmp, FitView, fits, no_fit, fit_view}
 use Rattle.course.specs.Charged as course
 use Rattle.course.specs.Charged.{put_on, put_in, replace_in}
-use Rattle.course.specs.Eval.{Res, no, emit_on, emit, charge, replace_by}
+use Rattle.course.specs.Eval.{emit_on, emit, charge, replace_by}
 use Rattle.promises.specs.Charge.{settle_on, replace_in_lem}
 use Rattle.substitution.specs.Stores.{Good, Ext, ext_put}
 use Rattle.substitution.specs.Passing.{pass_formed, put_pass}
 use Rattle.substitution.specs.Existence.{ValueGood}
 use Rattle.safety.specs.Sane.{decl_count}
-use Rattle.safety.specs.NeverLost.{Found, found, reaches}
+use Rattle.safety.specs.NeverLost.{Found, reaches}
 use Rattle.ways.specs.Stages.{put_at}
 use Rattle.inferring.specs.Asks.{Ask, writes, opens}
 use Rattle.inferring.specs.Eval.{run, charged_on, opened_on}
 use Rattle.inferring.specs.Scope.{put_scope}
-use Rattle.rows.specs.declared.Ptr.{Ptr}
 use Rattle.rows.specs.declared.Out.{Out}
 use Rattle.rows.specs.declared.Out.TheVariants.{Done, Refused}
 use Rattle.rows.specs.declared.Shape.{Shape}
 use Rattle.rows.specs.Words.{ptr_of, row_of, store_of}
 use Rattle.rows.specs.Writes.{Wrote}
 use Rattle.replace.proofs.Later.{held_room}
-use Rattle.replace.proofs.Comes.{Came, came}
+use Rattle.replace.proofs.Comes.{came}
 use Rattle.state.specs.declared.Meter.{Meter}
 use Rattle.state.specs.declared.Reduced.{Reduced}
-use Rattle.typing.specs.Here.{Here, later, depth_at, env_at, store_at, tally_at, limits_at, spare_at, res_at, Ready, Keeps, After}
-use Rattle.typing.specs.Gives.{Outcome, gave, refused, outcome_of, then_on, Value, Gives, InAt}
+use Rattle.typing.specs.Here.{Here, depth_at, env_at, store_at, tally_at, limits_at, spare_at, res_at, Ready, Keeps, After}
+use Rattle.typing.specs.Gives.{outcome_of, Gives, InAt}
 use Rattle.typing.specs.Pieces.{ran_with}
 use Rattle.typing.specs.Written.{reduced_by, Written, Writable}
-use Rattle.typing.proofs.Places.{At, Stopped, nothing_kept, after_keeps, piece_gives, piece_stops}
+use Rattle.typing.proofs.Places.{nothing_kept, piece_gives, piece_stops}
 use Rattle.typing.proofs.Alike.{res_alike, after_rows}
 
 -- ROWS THAT WERE CHARGED

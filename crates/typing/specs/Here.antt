@@ -1,6 +1,6 @@
 -- Where inference stands: the words, what stays the same, and the meter; what they stand for in the rules; and what every member is given.
 -- Assumes nothing: these are definitions.
-use Rattle.std.specs.Prelude.{ℕ, suc, ◌*◌, ◌-◌, ◌/◌, ◌≤◌, ◌≡◌, List, length, take}
+use Rattle.std.specs.Prelude.{ℕ, ◌*◌, ◌-◌, ◌/◌, ◌≤◌, ◌≡◌, List, length, take}
 use Rattle.rules.specs.Maxima.{most_records}
 use Rattle.rules.specs.Rows as rules
 use Rattle.rules.specs.Rows.{Store}

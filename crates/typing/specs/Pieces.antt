@@ -19,7 +19,7 @@ use Rattle.state.specs.declared.Given.{Given}
 use Rattle.state.specs.declared.Meter.{Meter}
 use Rattle.state.specs.declared.Reduced.{Reduced}
 use Rattle.state.specs.State.{tally_of}
-use Rattle.typing.specs.Here.{Here, here, later, depth_at, env_at, store_at, tally_at, limits_at, Ready, Keeps}
+use Rattle.typing.specs.Here.{Here, here, later, depth_at, env_at, tally_at, limits_at, Ready, Keeps}
 use Rattle.typing.specs.Gives.{Outcome, gave, refused, outcome_of, Value, Gives, InAt}
 
 -- an ask with these limits, in this environment, with r spare records

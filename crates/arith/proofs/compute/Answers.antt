@@ -1,6 +1,5 @@
 -- `arith::compute` meets its contract: each arm's function says of the two values what the rules say at the arm's operation.
 -- Assumes nothing.
-use borrow.Author.Rules.{rules}
 use mathlib.Core.Path.{◌≡◌, refl, ap}
 use Rattle.rules.specs.Arithmetic as rules
 use Rattle.rules.specs.Arithmetic.{compute}

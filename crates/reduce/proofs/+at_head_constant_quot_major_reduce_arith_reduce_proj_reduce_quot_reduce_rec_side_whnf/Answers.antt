@@ -13,7 +13,6 @@
 -- Assumes nothing.
 -- A side reduction: one level deeper, or 6. Assumes nothing.
 -- The loop over firings. Assumes nothing.
-use borrow.Author.Rules.{rules}
 use native.Mathlib.Omega.{arith}
 use Rattle.rows.proofs.Store.{used_stands}
 use Rattle.rows.proofs.Lookup.{nine_read, shape_read}
@@ -27,7 +26,6 @@ use Rattle.reduce.proofs.HeadNeeds.{structure_stands, structure_in_scope, projec
 use lib.ListN.{length}
 use Rattle.reduce.proofs.ConstantRules.{At, from_quotients, from_recursion, from_arithmetic, by_delta, quotients_first}
 use Rattle.reduce.proofs.ConstantRules.{quotients_answer, recursion_next, recursion_answers, arithmetic_next, arithmetic_answers, delta_last, value_stands, delta_answers}
-use Prim.Native.Nat.{ℕ, ◌+◌, ◌*◌}
 use Rattle.reduce.proofs.Sides.{side_falls, ran_as, may_take, still_counted, Came, came_read}
 use Rattle.reduce.proofs.QuotNeeds.{no_major, Major, major_scope, major_asked, major_refused, no_element, element_there, element_given}
 use mathlib.Core.Path.{◌≡◌, ◌∙◌}
@@ -67,30 +65,30 @@ pub at_head-overflow_add-first : goal.at_head-overflow_add-first
 at_head-overflow_add-first t c =
     let stands : Stands c.args.library.now c.args.scratch.now c.head_of-s.result.head.row = used_stands _ _ _ _ c.requires.stand.held _ (head_below c.requires _ c.head_of-s.ensures) in
     let seen : Seen c.args.library.now c.args.decls.now c.args.rules.now c.args.context.now c.args.scratch.now c.args.g c.args.m c.args.t c.head_of-s.result c.shape_of-w.result = record {
-  asked = c.requires;
-  walked = c.head_of-s.ensures;
-  read = shape_read _ _ _ stands _ c.row_at.ensures _ c.shape_of-w.ensures;
-} in
+      asked = c.requires;
+      walked = c.head_of-s.ensures;
+      read = shape_read _ _ _ stands _ c.row_at.ensures _ c.shape_of-w.ensures;
+    } in
     record { fits = omega (arith, index_small seen c.if-kind-eq-VARIABLE.true) }
 
 pub at_head-variable-requires : goal.at_head-variable-requires
 at_head-variable-requires t c =
     let stands : Stands c.args.library.now c.args.scratch.now c.head_of-s.result.head.row = used_stands _ _ _ _ c.requires.stand.held _ (head_below c.requires _ c.head_of-s.ensures) in
     let seen : Seen c.args.library.now c.args.decls.now c.args.rules.now c.args.context.now c.args.scratch.now c.args.g c.args.m c.args.t c.head_of-s.result c.shape_of-w.result = record {
-  asked = c.requires;
-  walked = c.head_of-s.ensures;
-  read = shape_read _ _ _ stands _ c.row_at.ensures _ c.shape_of-w.ensures;
-} in
+      asked = c.requires;
+      walked = c.head_of-s.ensures;
+      read = shape_read _ _ _ stands _ c.row_at.ensures _ c.shape_of-w.ensures;
+    } in
     let k = seen in record { headed = headed_of (seen_counted k); has_context = value_there k c.if-kind-eq-VARIABLE.true }
 
 pub at_head-returns-then-kind-eq-VARIABLE : goal.at_head-returns-then-kind-eq-VARIABLE
 at_head-returns-then-kind-eq-VARIABLE t c =
     let stands : Stands c.args.library.now c.args.scratch.now c.head_of-s.result.head.row = used_stands _ _ _ _ c.requires.stand.held _ (head_below c.requires _ c.head_of-s.ensures) in
     let seen : Seen c.args.library.now c.args.decls.now c.args.rules.now c.args.context.now c.args.scratch.now c.args.g c.args.m c.args.t c.head_of-s.result c.shape_of-w.result = record {
-  asked = c.requires;
-  walked = c.head_of-s.ensures;
-  read = shape_read _ _ _ stands _ c.row_at.ensures _ c.shape_of-w.ensures;
-} in
+      asked = c.requires;
+      walked = c.head_of-s.ensures;
+      read = shape_read _ _ _ stands _ c.row_at.ensures _ c.shape_of-w.ensures;
+    } in
     variable_answers seen c.if-kind-eq-VARIABLE.true _ c.variable.ensures
 
 -- A CONSTANT
@@ -98,10 +96,10 @@ pub at_head-constant-requires : goal.at_head-constant-requires
 at_head-constant-requires t c =
     let stands : Stands c.args.library.now c.args.scratch.now c.head_of-s.result.head.row = used_stands _ _ _ _ c.requires.stand.held _ (head_below c.requires _ c.head_of-s.ensures) in
     let seen : Seen c.args.library.now c.args.decls.now c.args.rules.now c.args.context.now c.args.scratch.now c.args.g c.args.m c.args.t c.head_of-s.result c.shape_of-w.result = record {
-  asked = c.requires;
-  walked = c.head_of-s.ensures;
-  read = shape_read _ _ _ stands _ c.row_at.ensures _ c.shape_of-w.ensures;
-} in
+      asked = c.requires;
+      walked = c.head_of-s.ensures;
+      read = shape_read _ _ _ stands _ c.row_at.ensures _ c.shape_of-w.ensures;
+    } in
     let k = seen in
     (omega (arith, c.decreases), (seen_counted k, declared k c.if-kind-eq-CONSTANT.true))
 
@@ -109,50 +107,50 @@ pub at_head-returns-then-kind-eq-CONSTANT : goal.at_head-returns-then-kind-eq-CO
 at_head-returns-then-kind-eq-CONSTANT t c =
     let stands : Stands c.args.library.now c.args.scratch.now c.head_of-s.result.head.row = used_stands _ _ _ _ c.requires.stand.held _ (head_below c.requires _ c.head_of-s.ensures) in
     let seen : Seen c.args.library.now c.args.decls.now c.args.rules.now c.args.context.now c.args.scratch.now c.args.g c.args.m c.args.t c.head_of-s.result c.shape_of-w.result = record {
-  asked = c.requires;
-  walked = c.head_of-s.ensures;
-  read = shape_read _ _ _ stands _ c.row_at.ensures _ c.shape_of-w.ensures;
-} in
+      asked = c.requires;
+      walked = c.head_of-s.ensures;
+      read = shape_read _ _ _ stands _ c.row_at.ensures _ c.shape_of-w.ensures;
+    } in
     constant_answers seen c.if-kind-eq-CONSTANT.true _ c.constant.ensures
 
 pub at_head-returns-then-s-eq0 : goal.at_head-returns-then-s-eq0
 at_head-returns-then-s-eq0 t c =
     let stands : Stands c.args.library.now c.args.scratch.now c.head_of-s.result.head.row = used_stands _ _ _ _ c.requires.stand.held _ (head_below c.requires _ c.head_of-s.ensures) in
     let seen : Seen c.args.library.now c.args.decls.now c.args.rules.now c.args.context.now c.args.scratch.now c.args.g c.args.m c.args.t c.head_of-s.result c.shape_of-w.result = record {
-  asked = c.requires;
-  walked = c.head_of-s.ensures;
-  read = shape_read _ _ _ stands _ c.row_at.ensures _ c.shape_of-w.ensures;
-} in
+      asked = c.requires;
+      walked = c.head_of-s.ensures;
+      read = shape_read _ _ _ stands _ c.row_at.ensures _ c.shape_of-w.ensures;
+    } in
     lambda_alone seen c.if-kind-eq-LAMBDA.true _ c.if-s-eq0.true
 
 pub at_head-argument-a-requires : goal.at_head-argument-a-requires
 at_head-argument-a-requires t c =
     let stands : Stands c.args.library.now c.args.scratch.now c.head_of-s.result.head.row = used_stands _ _ _ _ c.requires.stand.held _ (head_below c.requires _ c.head_of-s.ensures) in
     let seen : Seen c.args.library.now c.args.decls.now c.args.rules.now c.args.context.now c.args.scratch.now c.args.g c.args.m c.args.t c.head_of-s.result c.shape_of-w.result = record {
-  asked = c.requires;
-  walked = c.head_of-s.ensures;
-  read = shape_read _ _ _ stands _ c.row_at.ensures _ c.shape_of-w.ensures;
-} in
+      asked = c.requires;
+      walked = c.head_of-s.ensures;
+      read = shape_read _ _ _ stands _ c.row_at.ensures _ c.shape_of-w.ensures;
+    } in
     record { counted = may_take (seen_counted seen); i_lt_count = omega (arith, c.if-s-eq0.false) }
 
 pub at_head-open-requires : goal.at_head-open-requires
 at_head-open-requires t c =
     let stands : Stands c.args.library.now c.args.scratch.now c.head_of-s.result.head.row = used_stands _ _ _ _ c.requires.stand.held _ (head_below c.requires _ c.head_of-s.ensures) in
     let seen : Seen c.args.library.now c.args.decls.now c.args.rules.now c.args.context.now c.args.scratch.now c.args.g c.args.m c.args.t c.head_of-s.result c.shape_of-w.result = record {
-  asked = c.requires;
-  walked = c.head_of-s.ensures;
-  read = shape_read _ _ _ stands _ c.row_at.ensures _ c.shape_of-w.ensures;
-} in
+      asked = c.requires;
+      walked = c.head_of-s.ensures;
+      read = shape_read _ _ _ stands _ c.row_at.ensures _ c.shape_of-w.ensures;
+    } in
     let k = seen in record { headed = headed_of (seen_counted k); opens = lambda_may_open k c.if-kind-eq-LAMBDA.true c.argument-a.ensures; from_le_count = omega (arith, c.if-s-eq0.false) }
 
 pub at_head-returns-then-kind-eq-LAMBDA : goal.at_head-returns-then-kind-eq-LAMBDA
 at_head-returns-then-kind-eq-LAMBDA t c =
     let stands : Stands c.args.library.now c.args.scratch.now c.head_of-s.result.head.row = used_stands _ _ _ _ c.requires.stand.held _ (head_below c.requires _ c.head_of-s.ensures) in
     let seen : Seen c.args.library.now c.args.decls.now c.args.rules.now c.args.context.now c.args.scratch.now c.args.g c.args.m c.args.t c.head_of-s.result c.shape_of-w.result = record {
-  asked = c.requires;
-  walked = c.head_of-s.ensures;
-  read = shape_read _ _ _ stands _ c.row_at.ensures _ c.shape_of-w.ensures;
-} in
+      asked = c.requires;
+      walked = c.head_of-s.ensures;
+      read = shape_read _ _ _ stands _ c.row_at.ensures _ c.shape_of-w.ensures;
+    } in
     lambda_answers seen c.if-kind-eq-LAMBDA.true c.argument-a.ensures _ c.open.ensures
 
 -- A LET
@@ -160,30 +158,30 @@ pub at_head-shift_up-value-requires : goal.at_head-shift_up-value-requires
 at_head-shift_up-value-requires t c =
     let stands : Stands c.args.library.now c.args.scratch.now c.head_of-s.result.head.row = used_stands _ _ _ _ c.requires.stand.held _ (head_below c.requires _ c.head_of-s.ensures) in
     let seen : Seen c.args.library.now c.args.decls.now c.args.rules.now c.args.context.now c.args.scratch.now c.args.g c.args.m c.args.t c.head_of-s.result c.shape_of-w.result = record {
-  asked = c.requires;
-  walked = c.head_of-s.ensures;
-  read = shape_read _ _ _ stands _ c.row_at.ensures _ c.shape_of-w.ensures;
-} in
+      asked = c.requires;
+      walked = c.head_of-s.ensures;
+      read = shape_read _ _ _ stands _ c.row_at.ensures _ c.shape_of-w.ensures;
+    } in
     let both = let_value_stands seen c.if-kind-eq-LET.true in record { stands = both.0; k_bound = both.1 }
 
 pub at_head-open-requires-then-kind-eq-LET : goal.at_head-open-requires-then-kind-eq-LET
 at_head-open-requires-then-kind-eq-LET t c =
     let stands : Stands c.args.library.now c.args.scratch.now c.head_of-s.result.head.row = used_stands _ _ _ _ c.requires.stand.held _ (head_below c.requires _ c.head_of-s.ensures) in
     let seen : Seen c.args.library.now c.args.decls.now c.args.rules.now c.args.context.now c.args.scratch.now c.args.g c.args.m c.args.t c.head_of-s.result c.shape_of-w.result = record {
-  asked = c.requires;
-  walked = c.head_of-s.ensures;
-  read = shape_read _ _ _ stands _ c.row_at.ensures _ c.shape_of-w.ensures;
-} in
+      asked = c.requires;
+      walked = c.head_of-s.ensures;
+      read = shape_read _ _ _ stands _ c.row_at.ensures _ c.shape_of-w.ensures;
+    } in
     let k = seen in record { headed = headed_of (seen_counted k); opens = let_may_open k c.if-kind-eq-LET.true c.shift_up-value.ensures; from_le_count = omega arith }
 
 pub at_head-returns-then-kind-eq-LET : goal.at_head-returns-then-kind-eq-LET
 at_head-returns-then-kind-eq-LET t c =
     let stands : Stands c.args.library.now c.args.scratch.now c.head_of-s.result.head.row = used_stands _ _ _ _ c.requires.stand.held _ (head_below c.requires _ c.head_of-s.ensures) in
     let seen : Seen c.args.library.now c.args.decls.now c.args.rules.now c.args.context.now c.args.scratch.now c.args.g c.args.m c.args.t c.head_of-s.result c.shape_of-w.result = record {
-  asked = c.requires;
-  walked = c.head_of-s.ensures;
-  read = shape_read _ _ _ stands _ c.row_at.ensures _ c.shape_of-w.ensures;
-} in
+      asked = c.requires;
+      walked = c.head_of-s.ensures;
+      read = shape_read _ _ _ stands _ c.row_at.ensures _ c.shape_of-w.ensures;
+    } in
     let_answers seen c.if-kind-eq-LET.true c.shift_up-value.ensures _ c.open-then-kind-eq-LET.ensures
 
 -- A PROJECTION
@@ -191,20 +189,20 @@ pub at_head-shift_up-structure-requires : goal.at_head-shift_up-structure-requir
 at_head-shift_up-structure-requires t c =
     let stands : Stands c.args.library.now c.args.scratch.now c.head_of-s.result.head.row = used_stands _ _ _ _ c.requires.stand.held _ (head_below c.requires _ c.head_of-s.ensures) in
     let seen : Seen c.args.library.now c.args.decls.now c.args.rules.now c.args.context.now c.args.scratch.now c.args.g c.args.m c.args.t c.head_of-s.result c.shape_of-w.result = record {
-  asked = c.requires;
-  walked = c.head_of-s.ensures;
-  read = shape_read _ _ _ stands _ c.row_at.ensures _ c.shape_of-w.ensures;
-} in
+      asked = c.requires;
+      walked = c.head_of-s.ensures;
+      read = shape_read _ _ _ stands _ c.row_at.ensures _ c.shape_of-w.ensures;
+    } in
     let both = structure_stands seen c.if-kind-eq-PROJECTION.true in record { stands = both.0; k_bound = both.1 }
 
 pub at_head-reduce_proj-requires : goal.at_head-reduce_proj-requires
 at_head-reduce_proj-requires t c =
     let stands : Stands c.args.library.now c.args.scratch.now c.head_of-s.result.head.row = used_stands _ _ _ _ c.requires.stand.held _ (head_below c.requires _ c.head_of-s.ensures) in
     let seen : Seen c.args.library.now c.args.decls.now c.args.rules.now c.args.context.now c.args.scratch.now c.args.g c.args.m c.args.t c.head_of-s.result c.shape_of-w.result = record {
-  asked = c.requires;
-  walked = c.head_of-s.ensures;
-  read = shape_read _ _ _ stands _ c.row_at.ensures _ c.shape_of-w.ensures;
-} in
+      asked = c.requires;
+      walked = c.head_of-s.ensures;
+      read = shape_read _ _ _ stands _ c.row_at.ensures _ c.shape_of-w.ensures;
+    } in
     let k = seen in
     (omega (arith, c.decreases), (seen_counted k, structure_in_scope k c.if-kind-eq-PROJECTION.true c.shift_up-structure.ensures))
 
@@ -212,20 +210,20 @@ pub at_head-returns-then-kind-eq-PROJECTION : goal.at_head-returns-then-kind-eq-
 at_head-returns-then-kind-eq-PROJECTION t c =
     let stands : Stands c.args.library.now c.args.scratch.now c.head_of-s.result.head.row = used_stands _ _ _ _ c.requires.stand.held _ (head_below c.requires _ c.head_of-s.ensures) in
     let seen : Seen c.args.library.now c.args.decls.now c.args.rules.now c.args.context.now c.args.scratch.now c.args.g c.args.m c.args.t c.head_of-s.result c.shape_of-w.result = record {
-  asked = c.requires;
-  walked = c.head_of-s.ensures;
-  read = shape_read _ _ _ stands _ c.row_at.ensures _ c.shape_of-w.ensures;
-} in
+      asked = c.requires;
+      walked = c.head_of-s.ensures;
+      read = shape_read _ _ _ stands _ c.row_at.ensures _ c.shape_of-w.ensures;
+    } in
     projection_answers seen c.if-kind-eq-PROJECTION.true c.shift_up-structure.ensures _ c.reduce_proj.ensures
 
 pub at_head-returns : goal.at_head-returns
 at_head-returns t c =
     let stands : Stands c.args.library.now c.args.scratch.now c.head_of-s.result.head.row = used_stands _ _ _ _ c.requires.stand.held _ (head_below c.requires _ c.head_of-s.ensures) in
     let seen : Seen c.args.library.now c.args.decls.now c.args.rules.now c.args.context.now c.args.scratch.now c.args.g c.args.m c.args.t c.head_of-s.result c.shape_of-w.result = record {
-  asked = c.requires;
-  walked = c.head_of-s.ensures;
-  read = shape_read _ _ _ stands _ c.row_at.ensures _ c.shape_of-w.ensures;
-} in
+      asked = c.requires;
+      walked = c.head_of-s.ensures;
+      read = shape_read _ _ _ stands _ c.row_at.ensures _ c.shape_of-w.ensures;
+    } in
     no_rule_there seen _ c.if-kind-eq-VARIABLE.false c.if-kind-eq-CONSTANT.false c.if-kind-eq-LAMBDA.false c.if-kind-eq-LET.false c.if-kind-eq-PROJECTION.false
 
 -- QUOTIENTS
@@ -347,25 +345,25 @@ reduce_arith-is_tried-requires t c = tt
 
 pub reduce_arith-returns-then-not-is_tried : goal.reduce_arith-returns-then-not-is_tried
 reduce_arith-returns-then-not-is_tried t c =
-    let known : Known (record { library = c.args.library.now; decls = c.args.decls.now; rules = c.args.rules.now; context = c.args.context.now; scratch = c.args.scratch.now; g = c.args.g; m = c.args.m; declaration = c.args.declaration; t = c.args.t; count = c.args.count; nesting = c.args.nesting; }) c.decl_at-role.result = record { counted = c.requires.counted; there = c.requires.declaration_in_bounds; is = c.decl_at-role.ensures } in
+    let known : Known (record { library = c.args.library.now; decls = c.args.decls.now; rules = c.args.rules.now; context = c.args.context.now; scratch = c.args.scratch.now; g = c.args.g; m = c.args.m; declaration = c.args.declaration; t = c.args.t; count = c.args.count; nesting = c.args.nesting }) c.decl_at-role.result = record { counted = c.requires.counted; there = c.requires.declaration_in_bounds; is = c.decl_at-role.ensures } in
     untried known c.is_tried.ensures c.if-not-is_tried.true-raw
 
 pub reduce_arith-returns-then-count-ne2 : goal.reduce_arith-returns-then-count-ne2
 reduce_arith-returns-then-count-ne2 t c =
-    let known : Known (record { library = c.args.library.now; decls = c.args.decls.now; rules = c.args.rules.now; context = c.args.context.now; scratch = c.args.scratch.now; g = c.args.g; m = c.args.m; declaration = c.args.declaration; t = c.args.t; count = c.args.count; nesting = c.args.nesting; }) c.decl_at-role.result = record { counted = c.requires.counted; there = c.requires.declaration_in_bounds; is = c.decl_at-role.ensures } in
+    let known : Known (record { library = c.args.library.now; decls = c.args.decls.now; rules = c.args.rules.now; context = c.args.context.now; scratch = c.args.scratch.now; g = c.args.g; m = c.args.m; declaration = c.args.declaration; t = c.args.t; count = c.args.count; nesting = c.args.nesting }) c.decl_at-role.result = record { counted = c.requires.counted; there = c.requires.declaration_in_bounds; is = c.decl_at-role.ensures } in
     miscounted known c.is_tried.ensures c.if-not-is_tried.false-raw c.if-count-ne2.true
 
 pub reduce_arith-argument-first-requires : goal.reduce_arith-argument-first-requires
 reduce_arith-argument-first-requires t c =
-    let known : Known (record { library = c.args.library.now; decls = c.args.decls.now; rules = c.args.rules.now; context = c.args.context.now; scratch = c.args.scratch.now; g = c.args.g; m = c.args.m; declaration = c.args.declaration; t = c.args.t; count = c.args.count; nesting = c.args.nesting; }) c.decl_at-role.result = record { counted = c.requires.counted; there = c.requires.declaration_in_bounds; is = c.decl_at-role.ensures } in
-    let tried : Trying ((record { library = c.args.library.now; decls = c.args.decls.now; rules = c.args.rules.now; context = c.args.context.now; scratch = c.args.scratch.now; g = c.args.g; m = c.args.m; declaration = c.args.declaration; t = c.args.t; count = c.args.count; nesting = c.args.nesting; })) c.decl_at-role.result.role = trying known c.is_tried.ensures c.if-not-is_tried.false-raw c.if-count-ne2.false in
+    let known : Known (record { library = c.args.library.now; decls = c.args.decls.now; rules = c.args.rules.now; context = c.args.context.now; scratch = c.args.scratch.now; g = c.args.g; m = c.args.m; declaration = c.args.declaration; t = c.args.t; count = c.args.count; nesting = c.args.nesting }) c.decl_at-role.result = record { counted = c.requires.counted; there = c.requires.declaration_in_bounds; is = c.decl_at-role.ensures } in
+    let tried : Trying ((record { library = c.args.library.now; decls = c.args.decls.now; rules = c.args.rules.now; context = c.args.context.now; scratch = c.args.scratch.now; g = c.args.g; m = c.args.m; declaration = c.args.declaration; t = c.args.t; count = c.args.count; nesting = c.args.nesting })) c.decl_at-role.result.role = trying known c.is_tried.ensures c.if-not-is_tried.false-raw c.if-count-ne2.false in
     let tested = tried in record { counted = may_take tested.counted; i_lt_count = let two = tested.two in omega arith }
 
 pub reduce_arith-side-got-requires : goal.reduce_arith-side-got-requires
 reduce_arith-side-got-requires t c =
-    let known : Known (record { library = c.args.library.now; decls = c.args.decls.now; rules = c.args.rules.now; context = c.args.context.now; scratch = c.args.scratch.now; g = c.args.g; m = c.args.m; declaration = c.args.declaration; t = c.args.t; count = c.args.count; nesting = c.args.nesting; }) c.decl_at-role.result = record { counted = c.requires.counted; there = c.requires.declaration_in_bounds; is = c.decl_at-role.ensures } in
-    let tried : Trying ((record { library = c.args.library.now; decls = c.args.decls.now; rules = c.args.rules.now; context = c.args.context.now; scratch = c.args.scratch.now; g = c.args.g; m = c.args.m; declaration = c.args.declaration; t = c.args.t; count = c.args.count; nesting = c.args.nesting; })) c.decl_at-role.result.role = trying known c.is_tried.ensures c.if-not-is_tried.false-raw c.if-count-ne2.false in
-    let first : First ((record { library = c.args.library.now; decls = c.args.decls.now; rules = c.args.rules.now; context = c.args.context.now; scratch = c.args.scratch.now; g = c.args.g; m = c.args.m; declaration = c.args.declaration; t = c.args.t; count = c.args.count; nesting = c.args.nesting; })) c.decl_at-role.result.role c.argument-first.result = record { trying = tried; argument = c.argument-first.ensures } in
+    let known : Known (record { library = c.args.library.now; decls = c.args.decls.now; rules = c.args.rules.now; context = c.args.context.now; scratch = c.args.scratch.now; g = c.args.g; m = c.args.m; declaration = c.args.declaration; t = c.args.t; count = c.args.count; nesting = c.args.nesting }) c.decl_at-role.result = record { counted = c.requires.counted; there = c.requires.declaration_in_bounds; is = c.decl_at-role.ensures } in
+    let tried : Trying ((record { library = c.args.library.now; decls = c.args.decls.now; rules = c.args.rules.now; context = c.args.context.now; scratch = c.args.scratch.now; g = c.args.g; m = c.args.m; declaration = c.args.declaration; t = c.args.t; count = c.args.count; nesting = c.args.nesting })) c.decl_at-role.result.role = trying known c.is_tried.ensures c.if-not-is_tried.false-raw c.if-count-ne2.false in
+    let first : First ((record { library = c.args.library.now; decls = c.args.decls.now; rules = c.args.rules.now; context = c.args.context.now; scratch = c.args.scratch.now; g = c.args.g; m = c.args.m; declaration = c.args.declaration; t = c.args.t; count = c.args.count; nesting = c.args.nesting })) c.decl_at-role.result.role c.argument-first.result = record { trying = tried; argument = c.argument-first.ensures } in
     (omega arith, first_asked first)
 
 pub reduce_arith-as_answer-requires : goal.reduce_arith-as_answer-requires
@@ -373,43 +371,43 @@ reduce_arith-as_answer-requires t c = tt
 
 pub reduce_arith-returns-in_default : goal.reduce_arith-returns-in_default
 reduce_arith-returns-in_default t c =
-    let known : Known (record { library = c.args.library.now; decls = c.args.decls.now; rules = c.args.rules.now; context = c.args.context.now; scratch = c.args.scratch.now; g = c.args.g; m = c.args.m; declaration = c.args.declaration; t = c.args.t; count = c.args.count; nesting = c.args.nesting; }) c.decl_at-role.result = record { counted = c.requires.counted; there = c.requires.declaration_in_bounds; is = c.decl_at-role.ensures } in
-    let tried : Trying ((record { library = c.args.library.now; decls = c.args.decls.now; rules = c.args.rules.now; context = c.args.context.now; scratch = c.args.scratch.now; g = c.args.g; m = c.args.m; declaration = c.args.declaration; t = c.args.t; count = c.args.count; nesting = c.args.nesting; })) c.decl_at-role.result.role = trying known c.is_tried.ensures c.if-not-is_tried.false-raw c.if-count-ne2.false in
-    let first : First ((record { library = c.args.library.now; decls = c.args.decls.now; rules = c.args.rules.now; context = c.args.context.now; scratch = c.args.scratch.now; g = c.args.g; m = c.args.m; declaration = c.args.declaration; t = c.args.t; count = c.args.count; nesting = c.args.nesting; })) c.decl_at-role.result.role c.argument-first.result = record { trying = tried; argument = c.argument-first.ensures } in
+    let known : Known (record { library = c.args.library.now; decls = c.args.decls.now; rules = c.args.rules.now; context = c.args.context.now; scratch = c.args.scratch.now; g = c.args.g; m = c.args.m; declaration = c.args.declaration; t = c.args.t; count = c.args.count; nesting = c.args.nesting }) c.decl_at-role.result = record { counted = c.requires.counted; there = c.requires.declaration_in_bounds; is = c.decl_at-role.ensures } in
+    let tried : Trying ((record { library = c.args.library.now; decls = c.args.decls.now; rules = c.args.rules.now; context = c.args.context.now; scratch = c.args.scratch.now; g = c.args.g; m = c.args.m; declaration = c.args.declaration; t = c.args.t; count = c.args.count; nesting = c.args.nesting })) c.decl_at-role.result.role = trying known c.is_tried.ensures c.if-not-is_tried.false-raw c.if-count-ne2.false in
+    let first : First ((record { library = c.args.library.now; decls = c.args.decls.now; rules = c.args.rules.now; context = c.args.context.now; scratch = c.args.scratch.now; g = c.args.g; m = c.args.m; declaration = c.args.declaration; t = c.args.t; count = c.args.count; nesting = c.args.nesting })) c.decl_at-role.result.role c.argument-first.result = record { trying = tried; argument = c.argument-first.ensures } in
     first_refused first c.side-got.ensures c.in_default.is c.as_answer.ensures
 
 pub reduce_arith-number_at-found-requires : goal.reduce_arith-number_at-found-requires
 reduce_arith-number_at-found-requires t c =
-    let known : Known (record { library = c.args.library.now; decls = c.args.decls.now; rules = c.args.rules.now; context = c.args.context.now; scratch = c.args.scratch.now; g = c.args.g; m = c.args.m; declaration = c.args.declaration; t = c.args.t; count = c.args.count; nesting = c.args.nesting; }) c.decl_at-role.result = record { counted = c.requires.counted; there = c.requires.declaration_in_bounds; is = c.decl_at-role.ensures } in
-    let tried : Trying ((record { library = c.args.library.now; decls = c.args.decls.now; rules = c.args.rules.now; context = c.args.context.now; scratch = c.args.scratch.now; g = c.args.g; m = c.args.m; declaration = c.args.declaration; t = c.args.t; count = c.args.count; nesting = c.args.nesting; })) c.decl_at-role.result.role = trying known c.is_tried.ensures c.if-not-is_tried.false-raw c.if-count-ne2.false in
-    let first : First ((record { library = c.args.library.now; decls = c.args.decls.now; rules = c.args.rules.now; context = c.args.context.now; scratch = c.args.scratch.now; g = c.args.g; m = c.args.m; declaration = c.args.declaration; t = c.args.t; count = c.args.count; nesting = c.args.nesting; })) c.decl_at-role.result.role c.argument-first.result = record { trying = tried; argument = c.argument-first.ensures } in
-    let first_done : FirstDone ((record { library = c.args.library.now; decls = c.args.decls.now; rules = c.args.rules.now; context = c.args.context.now; scratch = c.args.scratch.now; g = c.args.g; m = c.args.m; declaration = c.args.declaration; t = c.args.t; count = c.args.count; nesting = c.args.nesting; })) c.decl_at-role.result.role (record { read = c.argument-first.result; end = c.in-To.q; m = c.in-To.m1; scratch = c.side-got.new.scratch; }) = record { first = first; ran = ran_as c.in-To.is c.side-got.ensures } in
+    let known : Known (record { library = c.args.library.now; decls = c.args.decls.now; rules = c.args.rules.now; context = c.args.context.now; scratch = c.args.scratch.now; g = c.args.g; m = c.args.m; declaration = c.args.declaration; t = c.args.t; count = c.args.count; nesting = c.args.nesting }) c.decl_at-role.result = record { counted = c.requires.counted; there = c.requires.declaration_in_bounds; is = c.decl_at-role.ensures } in
+    let tried : Trying ((record { library = c.args.library.now; decls = c.args.decls.now; rules = c.args.rules.now; context = c.args.context.now; scratch = c.args.scratch.now; g = c.args.g; m = c.args.m; declaration = c.args.declaration; t = c.args.t; count = c.args.count; nesting = c.args.nesting })) c.decl_at-role.result.role = trying known c.is_tried.ensures c.if-not-is_tried.false-raw c.if-count-ne2.false in
+    let first : First ((record { library = c.args.library.now; decls = c.args.decls.now; rules = c.args.rules.now; context = c.args.context.now; scratch = c.args.scratch.now; g = c.args.g; m = c.args.m; declaration = c.args.declaration; t = c.args.t; count = c.args.count; nesting = c.args.nesting })) c.decl_at-role.result.role c.argument-first.result = record { trying = tried; argument = c.argument-first.ensures } in
+    let first_done : FirstDone ((record { library = c.args.library.now; decls = c.args.decls.now; rules = c.args.rules.now; context = c.args.context.now; scratch = c.args.scratch.now; g = c.args.g; m = c.args.m; declaration = c.args.declaration; t = c.args.t; count = c.args.count; nesting = c.args.nesting })) c.decl_at-role.result.role (record { read = c.argument-first.result; end = c.in-To.q; m = c.in-To.m1; scratch = c.side-got.new.scratch }) = record { first = first; ran = ran_as c.in-To.is c.side-got.ensures } in
     walk_allowed (first_end first_done)
 
 pub reduce_arith-returns-in_default-found : goal.reduce_arith-returns-in_default-found
 reduce_arith-returns-in_default-found t c =
-    let known : Known (record { library = c.args.library.now; decls = c.args.decls.now; rules = c.args.rules.now; context = c.args.context.now; scratch = c.args.scratch.now; g = c.args.g; m = c.args.m; declaration = c.args.declaration; t = c.args.t; count = c.args.count; nesting = c.args.nesting; }) c.decl_at-role.result = record { counted = c.requires.counted; there = c.requires.declaration_in_bounds; is = c.decl_at-role.ensures } in
-    let tried : Trying ((record { library = c.args.library.now; decls = c.args.decls.now; rules = c.args.rules.now; context = c.args.context.now; scratch = c.args.scratch.now; g = c.args.g; m = c.args.m; declaration = c.args.declaration; t = c.args.t; count = c.args.count; nesting = c.args.nesting; })) c.decl_at-role.result.role = trying known c.is_tried.ensures c.if-not-is_tried.false-raw c.if-count-ne2.false in
-    let first : First ((record { library = c.args.library.now; decls = c.args.decls.now; rules = c.args.rules.now; context = c.args.context.now; scratch = c.args.scratch.now; g = c.args.g; m = c.args.m; declaration = c.args.declaration; t = c.args.t; count = c.args.count; nesting = c.args.nesting; })) c.decl_at-role.result.role c.argument-first.result = record { trying = tried; argument = c.argument-first.ensures } in
-    let first_done : FirstDone ((record { library = c.args.library.now; decls = c.args.decls.now; rules = c.args.rules.now; context = c.args.context.now; scratch = c.args.scratch.now; g = c.args.g; m = c.args.m; declaration = c.args.declaration; t = c.args.t; count = c.args.count; nesting = c.args.nesting; })) c.decl_at-role.result.role (record { read = c.argument-first.result; end = c.in-To.q; m = c.in-To.m1; scratch = c.side-got.new.scratch; }) = record { first = first; ran = ran_as c.in-To.is c.side-got.ensures } in
+    let known : Known (record { library = c.args.library.now; decls = c.args.decls.now; rules = c.args.rules.now; context = c.args.context.now; scratch = c.args.scratch.now; g = c.args.g; m = c.args.m; declaration = c.args.declaration; t = c.args.t; count = c.args.count; nesting = c.args.nesting }) c.decl_at-role.result = record { counted = c.requires.counted; there = c.requires.declaration_in_bounds; is = c.decl_at-role.ensures } in
+    let tried : Trying ((record { library = c.args.library.now; decls = c.args.decls.now; rules = c.args.rules.now; context = c.args.context.now; scratch = c.args.scratch.now; g = c.args.g; m = c.args.m; declaration = c.args.declaration; t = c.args.t; count = c.args.count; nesting = c.args.nesting })) c.decl_at-role.result.role = trying known c.is_tried.ensures c.if-not-is_tried.false-raw c.if-count-ne2.false in
+    let first : First ((record { library = c.args.library.now; decls = c.args.decls.now; rules = c.args.rules.now; context = c.args.context.now; scratch = c.args.scratch.now; g = c.args.g; m = c.args.m; declaration = c.args.declaration; t = c.args.t; count = c.args.count; nesting = c.args.nesting })) c.decl_at-role.result.role c.argument-first.result = record { trying = tried; argument = c.argument-first.ensures } in
+    let first_done : FirstDone ((record { library = c.args.library.now; decls = c.args.decls.now; rules = c.args.rules.now; context = c.args.context.now; scratch = c.args.scratch.now; g = c.args.g; m = c.args.m; declaration = c.args.declaration; t = c.args.t; count = c.args.count; nesting = c.args.nesting })) c.decl_at-role.result.role (record { read = c.argument-first.result; end = c.in-To.q; m = c.in-To.m1; scratch = c.side-got.new.scratch }) = record { first = first; ran = ran_as c.in-To.is c.side-got.ensures } in
     no_first_number first_done c.number_at-found.ensures c.in_default-found.is
 
 pub reduce_arith-argument-second-requires : goal.reduce_arith-argument-second-requires
 reduce_arith-argument-second-requires t c =
-    let known : Known (record { library = c.args.library.now; decls = c.args.decls.now; rules = c.args.rules.now; context = c.args.context.now; scratch = c.args.scratch.now; g = c.args.g; m = c.args.m; declaration = c.args.declaration; t = c.args.t; count = c.args.count; nesting = c.args.nesting; }) c.decl_at-role.result = record { counted = c.requires.counted; there = c.requires.declaration_in_bounds; is = c.decl_at-role.ensures } in
-    let tried : Trying ((record { library = c.args.library.now; decls = c.args.decls.now; rules = c.args.rules.now; context = c.args.context.now; scratch = c.args.scratch.now; g = c.args.g; m = c.args.m; declaration = c.args.declaration; t = c.args.t; count = c.args.count; nesting = c.args.nesting; })) c.decl_at-role.result.role = trying known c.is_tried.ensures c.if-not-is_tried.false-raw c.if-count-ne2.false in
-    let first : First ((record { library = c.args.library.now; decls = c.args.decls.now; rules = c.args.rules.now; context = c.args.context.now; scratch = c.args.scratch.now; g = c.args.g; m = c.args.m; declaration = c.args.declaration; t = c.args.t; count = c.args.count; nesting = c.args.nesting; })) c.decl_at-role.result.role c.argument-first.result = record { trying = tried; argument = c.argument-first.ensures } in
-    let first_done : FirstDone ((record { library = c.args.library.now; decls = c.args.decls.now; rules = c.args.rules.now; context = c.args.context.now; scratch = c.args.scratch.now; g = c.args.g; m = c.args.m; declaration = c.args.declaration; t = c.args.t; count = c.args.count; nesting = c.args.nesting; })) c.decl_at-role.result.role (record { read = c.argument-first.result; end = c.in-To.q; m = c.in-To.m1; scratch = c.side-got.new.scratch; }) = record { first = first; ran = ran_as c.in-To.is c.side-got.ensures } in
+    let known : Known (record { library = c.args.library.now; decls = c.args.decls.now; rules = c.args.rules.now; context = c.args.context.now; scratch = c.args.scratch.now; g = c.args.g; m = c.args.m; declaration = c.args.declaration; t = c.args.t; count = c.args.count; nesting = c.args.nesting }) c.decl_at-role.result = record { counted = c.requires.counted; there = c.requires.declaration_in_bounds; is = c.decl_at-role.ensures } in
+    let tried : Trying ((record { library = c.args.library.now; decls = c.args.decls.now; rules = c.args.rules.now; context = c.args.context.now; scratch = c.args.scratch.now; g = c.args.g; m = c.args.m; declaration = c.args.declaration; t = c.args.t; count = c.args.count; nesting = c.args.nesting })) c.decl_at-role.result.role = trying known c.is_tried.ensures c.if-not-is_tried.false-raw c.if-count-ne2.false in
+    let first : First ((record { library = c.args.library.now; decls = c.args.decls.now; rules = c.args.rules.now; context = c.args.context.now; scratch = c.args.scratch.now; g = c.args.g; m = c.args.m; declaration = c.args.declaration; t = c.args.t; count = c.args.count; nesting = c.args.nesting })) c.decl_at-role.result.role c.argument-first.result = record { trying = tried; argument = c.argument-first.ensures } in
+    let first_done : FirstDone ((record { library = c.args.library.now; decls = c.args.decls.now; rules = c.args.rules.now; context = c.args.context.now; scratch = c.args.scratch.now; g = c.args.g; m = c.args.m; declaration = c.args.declaration; t = c.args.t; count = c.args.count; nesting = c.args.nesting })) c.decl_at-role.result.role (record { read = c.argument-first.result; end = c.in-To.q; m = c.in-To.m1; scratch = c.side-got.new.scratch }) = record { first = first; ran = ran_as c.in-To.is c.side-got.ensures } in
     record { counted = may_take (counted_on first_done); i_lt_count = let two = tried.two in omega arith }
 
 pub reduce_arith-side-next-requires : goal.reduce_arith-side-next-requires
 reduce_arith-side-next-requires t c =
-    let known : Known (record { library = c.args.library.now; decls = c.args.decls.now; rules = c.args.rules.now; context = c.args.context.now; scratch = c.args.scratch.now; g = c.args.g; m = c.args.m; declaration = c.args.declaration; t = c.args.t; count = c.args.count; nesting = c.args.nesting; }) c.decl_at-role.result = record { counted = c.requires.counted; there = c.requires.declaration_in_bounds; is = c.decl_at-role.ensures } in
-    let tried : Trying ((record { library = c.args.library.now; decls = c.args.decls.now; rules = c.args.rules.now; context = c.args.context.now; scratch = c.args.scratch.now; g = c.args.g; m = c.args.m; declaration = c.args.declaration; t = c.args.t; count = c.args.count; nesting = c.args.nesting; })) c.decl_at-role.result.role = trying known c.is_tried.ensures c.if-not-is_tried.false-raw c.if-count-ne2.false in
-    let first : First ((record { library = c.args.library.now; decls = c.args.decls.now; rules = c.args.rules.now; context = c.args.context.now; scratch = c.args.scratch.now; g = c.args.g; m = c.args.m; declaration = c.args.declaration; t = c.args.t; count = c.args.count; nesting = c.args.nesting; })) c.decl_at-role.result.role c.argument-first.result = record { trying = tried; argument = c.argument-first.ensures } in
-    let first_done : FirstDone ((record { library = c.args.library.now; decls = c.args.decls.now; rules = c.args.rules.now; context = c.args.context.now; scratch = c.args.scratch.now; g = c.args.g; m = c.args.m; declaration = c.args.declaration; t = c.args.t; count = c.args.count; nesting = c.args.nesting; })) c.decl_at-role.result.role (record { read = c.argument-first.result; end = c.in-To.q; m = c.in-To.m1; scratch = c.side-got.new.scratch; }) = record { first = first; ran = ran_as c.in-To.is c.side-got.ensures } in
-    let first_is : FirstNumber ((record { library = c.args.library.now; decls = c.args.decls.now; rules = c.args.rules.now; context = c.args.context.now; scratch = c.args.scratch.now; g = c.args.g; m = c.args.m; declaration = c.args.declaration; t = c.args.t; count = c.args.count; nesting = c.args.nesting; })) c.decl_at-role.result.role ((record { read = c.argument-first.result; end = c.in-To.q; m = c.in-To.m1; scratch = c.side-got.new.scratch; })) (value_of c.in-Found.x) = first_number first_done c.number_at-found.ensures c.in-Found.is in
-    let second : Second ((record { library = c.args.library.now; decls = c.args.decls.now; rules = c.args.rules.now; context = c.args.context.now; scratch = c.args.scratch.now; g = c.args.g; m = c.args.m; declaration = c.args.declaration; t = c.args.t; count = c.args.count; nesting = c.args.nesting; })) c.decl_at-role.result.role ((record { read = c.argument-first.result; end = c.in-To.q; m = c.in-To.m1; scratch = c.side-got.new.scratch; })) ((value_of c.in-Found.x)) c.argument-second.result = record { first = first_is; argument = c.argument-second.ensures } in
+    let known : Known (record { library = c.args.library.now; decls = c.args.decls.now; rules = c.args.rules.now; context = c.args.context.now; scratch = c.args.scratch.now; g = c.args.g; m = c.args.m; declaration = c.args.declaration; t = c.args.t; count = c.args.count; nesting = c.args.nesting }) c.decl_at-role.result = record { counted = c.requires.counted; there = c.requires.declaration_in_bounds; is = c.decl_at-role.ensures } in
+    let tried : Trying ((record { library = c.args.library.now; decls = c.args.decls.now; rules = c.args.rules.now; context = c.args.context.now; scratch = c.args.scratch.now; g = c.args.g; m = c.args.m; declaration = c.args.declaration; t = c.args.t; count = c.args.count; nesting = c.args.nesting })) c.decl_at-role.result.role = trying known c.is_tried.ensures c.if-not-is_tried.false-raw c.if-count-ne2.false in
+    let first : First ((record { library = c.args.library.now; decls = c.args.decls.now; rules = c.args.rules.now; context = c.args.context.now; scratch = c.args.scratch.now; g = c.args.g; m = c.args.m; declaration = c.args.declaration; t = c.args.t; count = c.args.count; nesting = c.args.nesting })) c.decl_at-role.result.role c.argument-first.result = record { trying = tried; argument = c.argument-first.ensures } in
+    let first_done : FirstDone ((record { library = c.args.library.now; decls = c.args.decls.now; rules = c.args.rules.now; context = c.args.context.now; scratch = c.args.scratch.now; g = c.args.g; m = c.args.m; declaration = c.args.declaration; t = c.args.t; count = c.args.count; nesting = c.args.nesting })) c.decl_at-role.result.role (record { read = c.argument-first.result; end = c.in-To.q; m = c.in-To.m1; scratch = c.side-got.new.scratch }) = record { first = first; ran = ran_as c.in-To.is c.side-got.ensures } in
+    let first_is : FirstNumber ((record { library = c.args.library.now; decls = c.args.decls.now; rules = c.args.rules.now; context = c.args.context.now; scratch = c.args.scratch.now; g = c.args.g; m = c.args.m; declaration = c.args.declaration; t = c.args.t; count = c.args.count; nesting = c.args.nesting })) c.decl_at-role.result.role ((record { read = c.argument-first.result; end = c.in-To.q; m = c.in-To.m1; scratch = c.side-got.new.scratch })) (value_of c.in-Found.x) = first_number first_done c.number_at-found.ensures c.in-Found.is in
+    let second : Second ((record { library = c.args.library.now; decls = c.args.decls.now; rules = c.args.rules.now; context = c.args.context.now; scratch = c.args.scratch.now; g = c.args.g; m = c.args.m; declaration = c.args.declaration; t = c.args.t; count = c.args.count; nesting = c.args.nesting })) c.decl_at-role.result.role ((record { read = c.argument-first.result; end = c.in-To.q; m = c.in-To.m1; scratch = c.side-got.new.scratch })) ((value_of c.in-Found.x)) c.argument-second.result = record { first = first_is; argument = c.argument-second.ensures } in
     (omega arith, second_asked second)
 
 pub reduce_arith-as_answer-requires-in_default-next : goal.reduce_arith-as_answer-requires-in_default-next
@@ -417,23 +415,23 @@ reduce_arith-as_answer-requires-in_default-next t c = tt
 
 pub reduce_arith-returns-in_default-next : goal.reduce_arith-returns-in_default-next
 reduce_arith-returns-in_default-next t c =
-    let known : Known (record { library = c.args.library.now; decls = c.args.decls.now; rules = c.args.rules.now; context = c.args.context.now; scratch = c.args.scratch.now; g = c.args.g; m = c.args.m; declaration = c.args.declaration; t = c.args.t; count = c.args.count; nesting = c.args.nesting; }) c.decl_at-role.result = record { counted = c.requires.counted; there = c.requires.declaration_in_bounds; is = c.decl_at-role.ensures } in
-    let tried : Trying ((record { library = c.args.library.now; decls = c.args.decls.now; rules = c.args.rules.now; context = c.args.context.now; scratch = c.args.scratch.now; g = c.args.g; m = c.args.m; declaration = c.args.declaration; t = c.args.t; count = c.args.count; nesting = c.args.nesting; })) c.decl_at-role.result.role = trying known c.is_tried.ensures c.if-not-is_tried.false-raw c.if-count-ne2.false in
-    let first : First ((record { library = c.args.library.now; decls = c.args.decls.now; rules = c.args.rules.now; context = c.args.context.now; scratch = c.args.scratch.now; g = c.args.g; m = c.args.m; declaration = c.args.declaration; t = c.args.t; count = c.args.count; nesting = c.args.nesting; })) c.decl_at-role.result.role c.argument-first.result = record { trying = tried; argument = c.argument-first.ensures } in
-    let first_done : FirstDone ((record { library = c.args.library.now; decls = c.args.decls.now; rules = c.args.rules.now; context = c.args.context.now; scratch = c.args.scratch.now; g = c.args.g; m = c.args.m; declaration = c.args.declaration; t = c.args.t; count = c.args.count; nesting = c.args.nesting; })) c.decl_at-role.result.role (record { read = c.argument-first.result; end = c.in-To.q; m = c.in-To.m1; scratch = c.side-got.new.scratch; }) = record { first = first; ran = ran_as c.in-To.is c.side-got.ensures } in
-    let first_is : FirstNumber ((record { library = c.args.library.now; decls = c.args.decls.now; rules = c.args.rules.now; context = c.args.context.now; scratch = c.args.scratch.now; g = c.args.g; m = c.args.m; declaration = c.args.declaration; t = c.args.t; count = c.args.count; nesting = c.args.nesting; })) c.decl_at-role.result.role ((record { read = c.argument-first.result; end = c.in-To.q; m = c.in-To.m1; scratch = c.side-got.new.scratch; })) (value_of c.in-Found.x) = first_number first_done c.number_at-found.ensures c.in-Found.is in
-    let second : Second ((record { library = c.args.library.now; decls = c.args.decls.now; rules = c.args.rules.now; context = c.args.context.now; scratch = c.args.scratch.now; g = c.args.g; m = c.args.m; declaration = c.args.declaration; t = c.args.t; count = c.args.count; nesting = c.args.nesting; })) c.decl_at-role.result.role ((record { read = c.argument-first.result; end = c.in-To.q; m = c.in-To.m1; scratch = c.side-got.new.scratch; })) ((value_of c.in-Found.x)) c.argument-second.result = record { first = first_is; argument = c.argument-second.ensures } in
+    let known : Known (record { library = c.args.library.now; decls = c.args.decls.now; rules = c.args.rules.now; context = c.args.context.now; scratch = c.args.scratch.now; g = c.args.g; m = c.args.m; declaration = c.args.declaration; t = c.args.t; count = c.args.count; nesting = c.args.nesting }) c.decl_at-role.result = record { counted = c.requires.counted; there = c.requires.declaration_in_bounds; is = c.decl_at-role.ensures } in
+    let tried : Trying ((record { library = c.args.library.now; decls = c.args.decls.now; rules = c.args.rules.now; context = c.args.context.now; scratch = c.args.scratch.now; g = c.args.g; m = c.args.m; declaration = c.args.declaration; t = c.args.t; count = c.args.count; nesting = c.args.nesting })) c.decl_at-role.result.role = trying known c.is_tried.ensures c.if-not-is_tried.false-raw c.if-count-ne2.false in
+    let first : First ((record { library = c.args.library.now; decls = c.args.decls.now; rules = c.args.rules.now; context = c.args.context.now; scratch = c.args.scratch.now; g = c.args.g; m = c.args.m; declaration = c.args.declaration; t = c.args.t; count = c.args.count; nesting = c.args.nesting })) c.decl_at-role.result.role c.argument-first.result = record { trying = tried; argument = c.argument-first.ensures } in
+    let first_done : FirstDone ((record { library = c.args.library.now; decls = c.args.decls.now; rules = c.args.rules.now; context = c.args.context.now; scratch = c.args.scratch.now; g = c.args.g; m = c.args.m; declaration = c.args.declaration; t = c.args.t; count = c.args.count; nesting = c.args.nesting })) c.decl_at-role.result.role (record { read = c.argument-first.result; end = c.in-To.q; m = c.in-To.m1; scratch = c.side-got.new.scratch }) = record { first = first; ran = ran_as c.in-To.is c.side-got.ensures } in
+    let first_is : FirstNumber ((record { library = c.args.library.now; decls = c.args.decls.now; rules = c.args.rules.now; context = c.args.context.now; scratch = c.args.scratch.now; g = c.args.g; m = c.args.m; declaration = c.args.declaration; t = c.args.t; count = c.args.count; nesting = c.args.nesting })) c.decl_at-role.result.role ((record { read = c.argument-first.result; end = c.in-To.q; m = c.in-To.m1; scratch = c.side-got.new.scratch })) (value_of c.in-Found.x) = first_number first_done c.number_at-found.ensures c.in-Found.is in
+    let second : Second ((record { library = c.args.library.now; decls = c.args.decls.now; rules = c.args.rules.now; context = c.args.context.now; scratch = c.args.scratch.now; g = c.args.g; m = c.args.m; declaration = c.args.declaration; t = c.args.t; count = c.args.count; nesting = c.args.nesting })) c.decl_at-role.result.role ((record { read = c.argument-first.result; end = c.in-To.q; m = c.in-To.m1; scratch = c.side-got.new.scratch })) ((value_of c.in-Found.x)) c.argument-second.result = record { first = first_is; argument = c.argument-second.ensures } in
     second_refused second c.side-next.ensures c.in_default-next.is c.as_answer-in_default-next.ensures
 
 pub reduce_arith-number_at-other-requires : goal.reduce_arith-number_at-other-requires
 reduce_arith-number_at-other-requires t c =
-    let known : Known (record { library = c.args.library.now; decls = c.args.decls.now; rules = c.args.rules.now; context = c.args.context.now; scratch = c.args.scratch.now; g = c.args.g; m = c.args.m; declaration = c.args.declaration; t = c.args.t; count = c.args.count; nesting = c.args.nesting; }) c.decl_at-role.result = record { counted = c.requires.counted; there = c.requires.declaration_in_bounds; is = c.decl_at-role.ensures } in
-    let tried : Trying ((record { library = c.args.library.now; decls = c.args.decls.now; rules = c.args.rules.now; context = c.args.context.now; scratch = c.args.scratch.now; g = c.args.g; m = c.args.m; declaration = c.args.declaration; t = c.args.t; count = c.args.count; nesting = c.args.nesting; })) c.decl_at-role.result.role = trying known c.is_tried.ensures c.if-not-is_tried.false-raw c.if-count-ne2.false in
-    let first : First ((record { library = c.args.library.now; decls = c.args.decls.now; rules = c.args.rules.now; context = c.args.context.now; scratch = c.args.scratch.now; g = c.args.g; m = c.args.m; declaration = c.args.declaration; t = c.args.t; count = c.args.count; nesting = c.args.nesting; })) c.decl_at-role.result.role c.argument-first.result = record { trying = tried; argument = c.argument-first.ensures } in
-    let first_done : FirstDone ((record { library = c.args.library.now; decls = c.args.decls.now; rules = c.args.rules.now; context = c.args.context.now; scratch = c.args.scratch.now; g = c.args.g; m = c.args.m; declaration = c.args.declaration; t = c.args.t; count = c.args.count; nesting = c.args.nesting; })) c.decl_at-role.result.role (record { read = c.argument-first.result; end = c.in-To.q; m = c.in-To.m1; scratch = c.side-got.new.scratch; }) = record { first = first; ran = ran_as c.in-To.is c.side-got.ensures } in
-    let first_is : FirstNumber ((record { library = c.args.library.now; decls = c.args.decls.now; rules = c.args.rules.now; context = c.args.context.now; scratch = c.args.scratch.now; g = c.args.g; m = c.args.m; declaration = c.args.declaration; t = c.args.t; count = c.args.count; nesting = c.args.nesting; })) c.decl_at-role.result.role ((record { read = c.argument-first.result; end = c.in-To.q; m = c.in-To.m1; scratch = c.side-got.new.scratch; })) (value_of c.in-Found.x) = first_number first_done c.number_at-found.ensures c.in-Found.is in
-    let second : Second ((record { library = c.args.library.now; decls = c.args.decls.now; rules = c.args.rules.now; context = c.args.context.now; scratch = c.args.scratch.now; g = c.args.g; m = c.args.m; declaration = c.args.declaration; t = c.args.t; count = c.args.count; nesting = c.args.nesting; })) c.decl_at-role.result.role ((record { read = c.argument-first.result; end = c.in-To.q; m = c.in-To.m1; scratch = c.side-got.new.scratch; })) ((value_of c.in-Found.x)) c.argument-second.result = record { first = first_is; argument = c.argument-second.ensures } in
-    let second_done : SecondDone ((record { library = c.args.library.now; decls = c.args.decls.now; rules = c.args.rules.now; context = c.args.context.now; scratch = c.args.scratch.now; g = c.args.g; m = c.args.m; declaration = c.args.declaration; t = c.args.t; count = c.args.count; nesting = c.args.nesting; })) c.decl_at-role.result.role ((record { read = c.argument-first.result; end = c.in-To.q; m = c.in-To.m1; scratch = c.side-got.new.scratch; })) ((value_of c.in-Found.x)) (record { read = c.argument-second.result; end = c.in-To-next.q2; m = c.in-To-next.m2; scratch = c.side-next.new.scratch; }) = record { second = second; ran = ran_as c.in-To-next.is c.side-next.ensures } in
+    let known : Known (record { library = c.args.library.now; decls = c.args.decls.now; rules = c.args.rules.now; context = c.args.context.now; scratch = c.args.scratch.now; g = c.args.g; m = c.args.m; declaration = c.args.declaration; t = c.args.t; count = c.args.count; nesting = c.args.nesting }) c.decl_at-role.result = record { counted = c.requires.counted; there = c.requires.declaration_in_bounds; is = c.decl_at-role.ensures } in
+    let tried : Trying ((record { library = c.args.library.now; decls = c.args.decls.now; rules = c.args.rules.now; context = c.args.context.now; scratch = c.args.scratch.now; g = c.args.g; m = c.args.m; declaration = c.args.declaration; t = c.args.t; count = c.args.count; nesting = c.args.nesting })) c.decl_at-role.result.role = trying known c.is_tried.ensures c.if-not-is_tried.false-raw c.if-count-ne2.false in
+    let first : First ((record { library = c.args.library.now; decls = c.args.decls.now; rules = c.args.rules.now; context = c.args.context.now; scratch = c.args.scratch.now; g = c.args.g; m = c.args.m; declaration = c.args.declaration; t = c.args.t; count = c.args.count; nesting = c.args.nesting })) c.decl_at-role.result.role c.argument-first.result = record { trying = tried; argument = c.argument-first.ensures } in
+    let first_done : FirstDone ((record { library = c.args.library.now; decls = c.args.decls.now; rules = c.args.rules.now; context = c.args.context.now; scratch = c.args.scratch.now; g = c.args.g; m = c.args.m; declaration = c.args.declaration; t = c.args.t; count = c.args.count; nesting = c.args.nesting })) c.decl_at-role.result.role (record { read = c.argument-first.result; end = c.in-To.q; m = c.in-To.m1; scratch = c.side-got.new.scratch }) = record { first = first; ran = ran_as c.in-To.is c.side-got.ensures } in
+    let first_is : FirstNumber ((record { library = c.args.library.now; decls = c.args.decls.now; rules = c.args.rules.now; context = c.args.context.now; scratch = c.args.scratch.now; g = c.args.g; m = c.args.m; declaration = c.args.declaration; t = c.args.t; count = c.args.count; nesting = c.args.nesting })) c.decl_at-role.result.role ((record { read = c.argument-first.result; end = c.in-To.q; m = c.in-To.m1; scratch = c.side-got.new.scratch })) (value_of c.in-Found.x) = first_number first_done c.number_at-found.ensures c.in-Found.is in
+    let second : Second ((record { library = c.args.library.now; decls = c.args.decls.now; rules = c.args.rules.now; context = c.args.context.now; scratch = c.args.scratch.now; g = c.args.g; m = c.args.m; declaration = c.args.declaration; t = c.args.t; count = c.args.count; nesting = c.args.nesting })) c.decl_at-role.result.role ((record { read = c.argument-first.result; end = c.in-To.q; m = c.in-To.m1; scratch = c.side-got.new.scratch })) ((value_of c.in-Found.x)) c.argument-second.result = record { first = first_is; argument = c.argument-second.ensures } in
+    let second_done : SecondDone ((record { library = c.args.library.now; decls = c.args.decls.now; rules = c.args.rules.now; context = c.args.context.now; scratch = c.args.scratch.now; g = c.args.g; m = c.args.m; declaration = c.args.declaration; t = c.args.t; count = c.args.count; nesting = c.args.nesting })) c.decl_at-role.result.role ((record { read = c.argument-first.result; end = c.in-To.q; m = c.in-To.m1; scratch = c.side-got.new.scratch })) ((value_of c.in-Found.x)) (record { read = c.argument-second.result; end = c.in-To-next.q2; m = c.in-To-next.m2; scratch = c.side-next.new.scratch }) = record { second = second; ran = ran_as c.in-To-next.is c.side-next.ensures } in
     walk_allowed (second_end second_done)
 
 pub reduce_arith-shape_of-scratch-in_default-other : goal.reduce_arith-shape_of-scratch-in_default-other
@@ -443,24 +441,24 @@ reduce_arith-shape_of-scratch-in_default-other t c =
 
 pub reduce_arith-returns-in_default-other : goal.reduce_arith-returns-in_default-other
 reduce_arith-returns-in_default-other t c =
-    let known : Known (record { library = c.args.library.now; decls = c.args.decls.now; rules = c.args.rules.now; context = c.args.context.now; scratch = c.args.scratch.now; g = c.args.g; m = c.args.m; declaration = c.args.declaration; t = c.args.t; count = c.args.count; nesting = c.args.nesting; }) c.decl_at-role.result = record { counted = c.requires.counted; there = c.requires.declaration_in_bounds; is = c.decl_at-role.ensures } in
-    let tried : Trying ((record { library = c.args.library.now; decls = c.args.decls.now; rules = c.args.rules.now; context = c.args.context.now; scratch = c.args.scratch.now; g = c.args.g; m = c.args.m; declaration = c.args.declaration; t = c.args.t; count = c.args.count; nesting = c.args.nesting; })) c.decl_at-role.result.role = trying known c.is_tried.ensures c.if-not-is_tried.false-raw c.if-count-ne2.false in
-    let first : First ((record { library = c.args.library.now; decls = c.args.decls.now; rules = c.args.rules.now; context = c.args.context.now; scratch = c.args.scratch.now; g = c.args.g; m = c.args.m; declaration = c.args.declaration; t = c.args.t; count = c.args.count; nesting = c.args.nesting; })) c.decl_at-role.result.role c.argument-first.result = record { trying = tried; argument = c.argument-first.ensures } in
-    let first_done : FirstDone ((record { library = c.args.library.now; decls = c.args.decls.now; rules = c.args.rules.now; context = c.args.context.now; scratch = c.args.scratch.now; g = c.args.g; m = c.args.m; declaration = c.args.declaration; t = c.args.t; count = c.args.count; nesting = c.args.nesting; })) c.decl_at-role.result.role (record { read = c.argument-first.result; end = c.in-To.q; m = c.in-To.m1; scratch = c.side-got.new.scratch; }) = record { first = first; ran = ran_as c.in-To.is c.side-got.ensures } in
-    let first_is : FirstNumber ((record { library = c.args.library.now; decls = c.args.decls.now; rules = c.args.rules.now; context = c.args.context.now; scratch = c.args.scratch.now; g = c.args.g; m = c.args.m; declaration = c.args.declaration; t = c.args.t; count = c.args.count; nesting = c.args.nesting; })) c.decl_at-role.result.role ((record { read = c.argument-first.result; end = c.in-To.q; m = c.in-To.m1; scratch = c.side-got.new.scratch; })) (value_of c.in-Found.x) = first_number first_done c.number_at-found.ensures c.in-Found.is in
-    let second : Second ((record { library = c.args.library.now; decls = c.args.decls.now; rules = c.args.rules.now; context = c.args.context.now; scratch = c.args.scratch.now; g = c.args.g; m = c.args.m; declaration = c.args.declaration; t = c.args.t; count = c.args.count; nesting = c.args.nesting; })) c.decl_at-role.result.role ((record { read = c.argument-first.result; end = c.in-To.q; m = c.in-To.m1; scratch = c.side-got.new.scratch; })) ((value_of c.in-Found.x)) c.argument-second.result = record { first = first_is; argument = c.argument-second.ensures } in
-    let second_done : SecondDone ((record { library = c.args.library.now; decls = c.args.decls.now; rules = c.args.rules.now; context = c.args.context.now; scratch = c.args.scratch.now; g = c.args.g; m = c.args.m; declaration = c.args.declaration; t = c.args.t; count = c.args.count; nesting = c.args.nesting; })) c.decl_at-role.result.role ((record { read = c.argument-first.result; end = c.in-To.q; m = c.in-To.m1; scratch = c.side-got.new.scratch; })) ((value_of c.in-Found.x)) (record { read = c.argument-second.result; end = c.in-To-next.q2; m = c.in-To-next.m2; scratch = c.side-next.new.scratch; }) = record { second = second; ran = ran_as c.in-To-next.is c.side-next.ensures } in
+    let known : Known (record { library = c.args.library.now; decls = c.args.decls.now; rules = c.args.rules.now; context = c.args.context.now; scratch = c.args.scratch.now; g = c.args.g; m = c.args.m; declaration = c.args.declaration; t = c.args.t; count = c.args.count; nesting = c.args.nesting }) c.decl_at-role.result = record { counted = c.requires.counted; there = c.requires.declaration_in_bounds; is = c.decl_at-role.ensures } in
+    let tried : Trying ((record { library = c.args.library.now; decls = c.args.decls.now; rules = c.args.rules.now; context = c.args.context.now; scratch = c.args.scratch.now; g = c.args.g; m = c.args.m; declaration = c.args.declaration; t = c.args.t; count = c.args.count; nesting = c.args.nesting })) c.decl_at-role.result.role = trying known c.is_tried.ensures c.if-not-is_tried.false-raw c.if-count-ne2.false in
+    let first : First ((record { library = c.args.library.now; decls = c.args.decls.now; rules = c.args.rules.now; context = c.args.context.now; scratch = c.args.scratch.now; g = c.args.g; m = c.args.m; declaration = c.args.declaration; t = c.args.t; count = c.args.count; nesting = c.args.nesting })) c.decl_at-role.result.role c.argument-first.result = record { trying = tried; argument = c.argument-first.ensures } in
+    let first_done : FirstDone ((record { library = c.args.library.now; decls = c.args.decls.now; rules = c.args.rules.now; context = c.args.context.now; scratch = c.args.scratch.now; g = c.args.g; m = c.args.m; declaration = c.args.declaration; t = c.args.t; count = c.args.count; nesting = c.args.nesting })) c.decl_at-role.result.role (record { read = c.argument-first.result; end = c.in-To.q; m = c.in-To.m1; scratch = c.side-got.new.scratch }) = record { first = first; ran = ran_as c.in-To.is c.side-got.ensures } in
+    let first_is : FirstNumber ((record { library = c.args.library.now; decls = c.args.decls.now; rules = c.args.rules.now; context = c.args.context.now; scratch = c.args.scratch.now; g = c.args.g; m = c.args.m; declaration = c.args.declaration; t = c.args.t; count = c.args.count; nesting = c.args.nesting })) c.decl_at-role.result.role ((record { read = c.argument-first.result; end = c.in-To.q; m = c.in-To.m1; scratch = c.side-got.new.scratch })) (value_of c.in-Found.x) = first_number first_done c.number_at-found.ensures c.in-Found.is in
+    let second : Second ((record { library = c.args.library.now; decls = c.args.decls.now; rules = c.args.rules.now; context = c.args.context.now; scratch = c.args.scratch.now; g = c.args.g; m = c.args.m; declaration = c.args.declaration; t = c.args.t; count = c.args.count; nesting = c.args.nesting })) c.decl_at-role.result.role ((record { read = c.argument-first.result; end = c.in-To.q; m = c.in-To.m1; scratch = c.side-got.new.scratch })) ((value_of c.in-Found.x)) c.argument-second.result = record { first = first_is; argument = c.argument-second.ensures } in
+    let second_done : SecondDone ((record { library = c.args.library.now; decls = c.args.decls.now; rules = c.args.rules.now; context = c.args.context.now; scratch = c.args.scratch.now; g = c.args.g; m = c.args.m; declaration = c.args.declaration; t = c.args.t; count = c.args.count; nesting = c.args.nesting })) c.decl_at-role.result.role ((record { read = c.argument-first.result; end = c.in-To.q; m = c.in-To.m1; scratch = c.side-got.new.scratch })) ((value_of c.in-Found.x)) (record { read = c.argument-second.result; end = c.in-To-next.q2; m = c.in-To-next.m2; scratch = c.side-next.new.scratch }) = record { second = second; ran = ran_as c.in-To-next.is c.side-next.ensures } in
     no_second_number second_done c.number_at-other.ensures c.in_default-other.is
 
 pub reduce_arith-op_of-requires : goal.reduce_arith-op_of-requires
 reduce_arith-op_of-requires t c =
-    let known : Known (record { library = c.args.library.now; decls = c.args.decls.now; rules = c.args.rules.now; context = c.args.context.now; scratch = c.args.scratch.now; g = c.args.g; m = c.args.m; declaration = c.args.declaration; t = c.args.t; count = c.args.count; nesting = c.args.nesting; }) c.decl_at-role.result = record { counted = c.requires.counted; there = c.requires.declaration_in_bounds; is = c.decl_at-role.ensures } in
-    let tried : Trying ((record { library = c.args.library.now; decls = c.args.decls.now; rules = c.args.rules.now; context = c.args.context.now; scratch = c.args.scratch.now; g = c.args.g; m = c.args.m; declaration = c.args.declaration; t = c.args.t; count = c.args.count; nesting = c.args.nesting; })) c.decl_at-role.result.role = trying known c.is_tried.ensures c.if-not-is_tried.false-raw c.if-count-ne2.false in
-    let first : First ((record { library = c.args.library.now; decls = c.args.decls.now; rules = c.args.rules.now; context = c.args.context.now; scratch = c.args.scratch.now; g = c.args.g; m = c.args.m; declaration = c.args.declaration; t = c.args.t; count = c.args.count; nesting = c.args.nesting; })) c.decl_at-role.result.role c.argument-first.result = record { trying = tried; argument = c.argument-first.ensures } in
-    let first_done : FirstDone ((record { library = c.args.library.now; decls = c.args.decls.now; rules = c.args.rules.now; context = c.args.context.now; scratch = c.args.scratch.now; g = c.args.g; m = c.args.m; declaration = c.args.declaration; t = c.args.t; count = c.args.count; nesting = c.args.nesting; })) c.decl_at-role.result.role (record { read = c.argument-first.result; end = c.in-To.q; m = c.in-To.m1; scratch = c.side-got.new.scratch; }) = record { first = first; ran = ran_as c.in-To.is c.side-got.ensures } in
-    let first_is : FirstNumber ((record { library = c.args.library.now; decls = c.args.decls.now; rules = c.args.rules.now; context = c.args.context.now; scratch = c.args.scratch.now; g = c.args.g; m = c.args.m; declaration = c.args.declaration; t = c.args.t; count = c.args.count; nesting = c.args.nesting; })) c.decl_at-role.result.role ((record { read = c.argument-first.result; end = c.in-To.q; m = c.in-To.m1; scratch = c.side-got.new.scratch; })) (value_of c.in-Found.x) = first_number first_done c.number_at-found.ensures c.in-Found.is in
-    let second : Second ((record { library = c.args.library.now; decls = c.args.decls.now; rules = c.args.rules.now; context = c.args.context.now; scratch = c.args.scratch.now; g = c.args.g; m = c.args.m; declaration = c.args.declaration; t = c.args.t; count = c.args.count; nesting = c.args.nesting; })) c.decl_at-role.result.role ((record { read = c.argument-first.result; end = c.in-To.q; m = c.in-To.m1; scratch = c.side-got.new.scratch; })) ((value_of c.in-Found.x)) c.argument-second.result = record { first = first_is; argument = c.argument-second.ensures } in
-    let second_done : SecondDone ((record { library = c.args.library.now; decls = c.args.decls.now; rules = c.args.rules.now; context = c.args.context.now; scratch = c.args.scratch.now; g = c.args.g; m = c.args.m; declaration = c.args.declaration; t = c.args.t; count = c.args.count; nesting = c.args.nesting; })) c.decl_at-role.result.role ((record { read = c.argument-first.result; end = c.in-To.q; m = c.in-To.m1; scratch = c.side-got.new.scratch; })) ((value_of c.in-Found.x)) (record { read = c.argument-second.result; end = c.in-To-next.q2; m = c.in-To-next.m2; scratch = c.side-next.new.scratch; }) = record { second = second; ran = ran_as c.in-To-next.is c.side-next.ensures } in
+    let known : Known (record { library = c.args.library.now; decls = c.args.decls.now; rules = c.args.rules.now; context = c.args.context.now; scratch = c.args.scratch.now; g = c.args.g; m = c.args.m; declaration = c.args.declaration; t = c.args.t; count = c.args.count; nesting = c.args.nesting }) c.decl_at-role.result = record { counted = c.requires.counted; there = c.requires.declaration_in_bounds; is = c.decl_at-role.ensures } in
+    let tried : Trying ((record { library = c.args.library.now; decls = c.args.decls.now; rules = c.args.rules.now; context = c.args.context.now; scratch = c.args.scratch.now; g = c.args.g; m = c.args.m; declaration = c.args.declaration; t = c.args.t; count = c.args.count; nesting = c.args.nesting })) c.decl_at-role.result.role = trying known c.is_tried.ensures c.if-not-is_tried.false-raw c.if-count-ne2.false in
+    let first : First ((record { library = c.args.library.now; decls = c.args.decls.now; rules = c.args.rules.now; context = c.args.context.now; scratch = c.args.scratch.now; g = c.args.g; m = c.args.m; declaration = c.args.declaration; t = c.args.t; count = c.args.count; nesting = c.args.nesting })) c.decl_at-role.result.role c.argument-first.result = record { trying = tried; argument = c.argument-first.ensures } in
+    let first_done : FirstDone ((record { library = c.args.library.now; decls = c.args.decls.now; rules = c.args.rules.now; context = c.args.context.now; scratch = c.args.scratch.now; g = c.args.g; m = c.args.m; declaration = c.args.declaration; t = c.args.t; count = c.args.count; nesting = c.args.nesting })) c.decl_at-role.result.role (record { read = c.argument-first.result; end = c.in-To.q; m = c.in-To.m1; scratch = c.side-got.new.scratch }) = record { first = first; ran = ran_as c.in-To.is c.side-got.ensures } in
+    let first_is : FirstNumber ((record { library = c.args.library.now; decls = c.args.decls.now; rules = c.args.rules.now; context = c.args.context.now; scratch = c.args.scratch.now; g = c.args.g; m = c.args.m; declaration = c.args.declaration; t = c.args.t; count = c.args.count; nesting = c.args.nesting })) c.decl_at-role.result.role ((record { read = c.argument-first.result; end = c.in-To.q; m = c.in-To.m1; scratch = c.side-got.new.scratch })) (value_of c.in-Found.x) = first_number first_done c.number_at-found.ensures c.in-Found.is in
+    let second : Second ((record { library = c.args.library.now; decls = c.args.decls.now; rules = c.args.rules.now; context = c.args.context.now; scratch = c.args.scratch.now; g = c.args.g; m = c.args.m; declaration = c.args.declaration; t = c.args.t; count = c.args.count; nesting = c.args.nesting })) c.decl_at-role.result.role ((record { read = c.argument-first.result; end = c.in-To.q; m = c.in-To.m1; scratch = c.side-got.new.scratch })) ((value_of c.in-Found.x)) c.argument-second.result = record { first = first_is; argument = c.argument-second.ensures } in
+    let second_done : SecondDone ((record { library = c.args.library.now; decls = c.args.decls.now; rules = c.args.rules.now; context = c.args.context.now; scratch = c.args.scratch.now; g = c.args.g; m = c.args.m; declaration = c.args.declaration; t = c.args.t; count = c.args.count; nesting = c.args.nesting })) c.decl_at-role.result.role ((record { read = c.argument-first.result; end = c.in-To.q; m = c.in-To.m1; scratch = c.side-got.new.scratch })) ((value_of c.in-Found.x)) (record { read = c.argument-second.result; end = c.in-To-next.q2; m = c.in-To-next.m2; scratch = c.side-next.new.scratch }) = record { second = second; ran = ran_as c.in-To-next.is c.side-next.ensures } in
     role_codes second_done
 
 pub reduce_arith-compute-requires : goal.reduce_arith-compute-requires
@@ -468,13 +466,13 @@ reduce_arith-compute-requires t c = tt
 
 pub reduce_arith-write_outcome-requires : goal.reduce_arith-write_outcome-requires
 reduce_arith-write_outcome-requires t c =
-    let known : Known (record { library = c.args.library.now; decls = c.args.decls.now; rules = c.args.rules.now; context = c.args.context.now; scratch = c.args.scratch.now; g = c.args.g; m = c.args.m; declaration = c.args.declaration; t = c.args.t; count = c.args.count; nesting = c.args.nesting; }) c.decl_at-role.result = record { counted = c.requires.counted; there = c.requires.declaration_in_bounds; is = c.decl_at-role.ensures } in
-    let tried : Trying ((record { library = c.args.library.now; decls = c.args.decls.now; rules = c.args.rules.now; context = c.args.context.now; scratch = c.args.scratch.now; g = c.args.g; m = c.args.m; declaration = c.args.declaration; t = c.args.t; count = c.args.count; nesting = c.args.nesting; })) c.decl_at-role.result.role = trying known c.is_tried.ensures c.if-not-is_tried.false-raw c.if-count-ne2.false in
-    let first : First ((record { library = c.args.library.now; decls = c.args.decls.now; rules = c.args.rules.now; context = c.args.context.now; scratch = c.args.scratch.now; g = c.args.g; m = c.args.m; declaration = c.args.declaration; t = c.args.t; count = c.args.count; nesting = c.args.nesting; })) c.decl_at-role.result.role c.argument-first.result = record { trying = tried; argument = c.argument-first.ensures } in
-    let first_done : FirstDone ((record { library = c.args.library.now; decls = c.args.decls.now; rules = c.args.rules.now; context = c.args.context.now; scratch = c.args.scratch.now; g = c.args.g; m = c.args.m; declaration = c.args.declaration; t = c.args.t; count = c.args.count; nesting = c.args.nesting; })) c.decl_at-role.result.role (record { read = c.argument-first.result; end = c.in-To.q; m = c.in-To.m1; scratch = c.side-got.new.scratch; }) = record { first = first; ran = ran_as c.in-To.is c.side-got.ensures } in
-    let first_is : FirstNumber ((record { library = c.args.library.now; decls = c.args.decls.now; rules = c.args.rules.now; context = c.args.context.now; scratch = c.args.scratch.now; g = c.args.g; m = c.args.m; declaration = c.args.declaration; t = c.args.t; count = c.args.count; nesting = c.args.nesting; })) c.decl_at-role.result.role ((record { read = c.argument-first.result; end = c.in-To.q; m = c.in-To.m1; scratch = c.side-got.new.scratch; })) (value_of c.in-Found.x) = first_number first_done c.number_at-found.ensures c.in-Found.is in
-    let second : Second ((record { library = c.args.library.now; decls = c.args.decls.now; rules = c.args.rules.now; context = c.args.context.now; scratch = c.args.scratch.now; g = c.args.g; m = c.args.m; declaration = c.args.declaration; t = c.args.t; count = c.args.count; nesting = c.args.nesting; })) c.decl_at-role.result.role ((record { read = c.argument-first.result; end = c.in-To.q; m = c.in-To.m1; scratch = c.side-got.new.scratch; })) ((value_of c.in-Found.x)) c.argument-second.result = record { first = first_is; argument = c.argument-second.ensures } in
-    let second_done : SecondDone ((record { library = c.args.library.now; decls = c.args.decls.now; rules = c.args.rules.now; context = c.args.context.now; scratch = c.args.scratch.now; g = c.args.g; m = c.args.m; declaration = c.args.declaration; t = c.args.t; count = c.args.count; nesting = c.args.nesting; })) c.decl_at-role.result.role ((record { read = c.argument-first.result; end = c.in-To.q; m = c.in-To.m1; scratch = c.side-got.new.scratch; })) ((value_of c.in-Found.x)) (record { read = c.argument-second.result; end = c.in-To-next.q2; m = c.in-To-next.m2; scratch = c.side-next.new.scratch; }) = record { second = second; ran = ran_as c.in-To-next.is c.side-next.ensures } in
+    let known : Known (record { library = c.args.library.now; decls = c.args.decls.now; rules = c.args.rules.now; context = c.args.context.now; scratch = c.args.scratch.now; g = c.args.g; m = c.args.m; declaration = c.args.declaration; t = c.args.t; count = c.args.count; nesting = c.args.nesting }) c.decl_at-role.result = record { counted = c.requires.counted; there = c.requires.declaration_in_bounds; is = c.decl_at-role.ensures } in
+    let tried : Trying ((record { library = c.args.library.now; decls = c.args.decls.now; rules = c.args.rules.now; context = c.args.context.now; scratch = c.args.scratch.now; g = c.args.g; m = c.args.m; declaration = c.args.declaration; t = c.args.t; count = c.args.count; nesting = c.args.nesting })) c.decl_at-role.result.role = trying known c.is_tried.ensures c.if-not-is_tried.false-raw c.if-count-ne2.false in
+    let first : First ((record { library = c.args.library.now; decls = c.args.decls.now; rules = c.args.rules.now; context = c.args.context.now; scratch = c.args.scratch.now; g = c.args.g; m = c.args.m; declaration = c.args.declaration; t = c.args.t; count = c.args.count; nesting = c.args.nesting })) c.decl_at-role.result.role c.argument-first.result = record { trying = tried; argument = c.argument-first.ensures } in
+    let first_done : FirstDone ((record { library = c.args.library.now; decls = c.args.decls.now; rules = c.args.rules.now; context = c.args.context.now; scratch = c.args.scratch.now; g = c.args.g; m = c.args.m; declaration = c.args.declaration; t = c.args.t; count = c.args.count; nesting = c.args.nesting })) c.decl_at-role.result.role (record { read = c.argument-first.result; end = c.in-To.q; m = c.in-To.m1; scratch = c.side-got.new.scratch }) = record { first = first; ran = ran_as c.in-To.is c.side-got.ensures } in
+    let first_is : FirstNumber ((record { library = c.args.library.now; decls = c.args.decls.now; rules = c.args.rules.now; context = c.args.context.now; scratch = c.args.scratch.now; g = c.args.g; m = c.args.m; declaration = c.args.declaration; t = c.args.t; count = c.args.count; nesting = c.args.nesting })) c.decl_at-role.result.role ((record { read = c.argument-first.result; end = c.in-To.q; m = c.in-To.m1; scratch = c.side-got.new.scratch })) (value_of c.in-Found.x) = first_number first_done c.number_at-found.ensures c.in-Found.is in
+    let second : Second ((record { library = c.args.library.now; decls = c.args.decls.now; rules = c.args.rules.now; context = c.args.context.now; scratch = c.args.scratch.now; g = c.args.g; m = c.args.m; declaration = c.args.declaration; t = c.args.t; count = c.args.count; nesting = c.args.nesting })) c.decl_at-role.result.role ((record { read = c.argument-first.result; end = c.in-To.q; m = c.in-To.m1; scratch = c.side-got.new.scratch })) ((value_of c.in-Found.x)) c.argument-second.result = record { first = first_is; argument = c.argument-second.ensures } in
+    let second_done : SecondDone ((record { library = c.args.library.now; decls = c.args.decls.now; rules = c.args.rules.now; context = c.args.context.now; scratch = c.args.scratch.now; g = c.args.g; m = c.args.m; declaration = c.args.declaration; t = c.args.t; count = c.args.count; nesting = c.args.nesting })) c.decl_at-role.result.role ((record { read = c.argument-first.result; end = c.in-To.q; m = c.in-To.m1; scratch = c.side-got.new.scratch })) ((value_of c.in-Found.x)) (record { read = c.argument-second.result; end = c.in-To-next.q2; m = c.in-To-next.m2; scratch = c.side-next.new.scratch }) = record { second = second; ran = ran_as c.in-To-next.is c.side-next.ensures } in
     let done = second_done in record { may_fire = may_fire (second_end done); truth_held = truths done c.op_of.result c.op_of.ensures c.in-Found-other.y c.compute.result c.compute.ensures }
 
 pub reduce_arith-shape_of-scratch : goal.reduce_arith-shape_of-scratch
@@ -484,13 +482,13 @@ reduce_arith-shape_of-scratch t c =
 
 pub reduce_arith-returns : goal.reduce_arith-returns
 reduce_arith-returns t c =
-    let known : Known (record { library = c.args.library.now; decls = c.args.decls.now; rules = c.args.rules.now; context = c.args.context.now; scratch = c.args.scratch.now; g = c.args.g; m = c.args.m; declaration = c.args.declaration; t = c.args.t; count = c.args.count; nesting = c.args.nesting; }) c.decl_at-role.result = record { counted = c.requires.counted; there = c.requires.declaration_in_bounds; is = c.decl_at-role.ensures } in
-    let tried : Trying ((record { library = c.args.library.now; decls = c.args.decls.now; rules = c.args.rules.now; context = c.args.context.now; scratch = c.args.scratch.now; g = c.args.g; m = c.args.m; declaration = c.args.declaration; t = c.args.t; count = c.args.count; nesting = c.args.nesting; })) c.decl_at-role.result.role = trying known c.is_tried.ensures c.if-not-is_tried.false-raw c.if-count-ne2.false in
-    let first : First ((record { library = c.args.library.now; decls = c.args.decls.now; rules = c.args.rules.now; context = c.args.context.now; scratch = c.args.scratch.now; g = c.args.g; m = c.args.m; declaration = c.args.declaration; t = c.args.t; count = c.args.count; nesting = c.args.nesting; })) c.decl_at-role.result.role c.argument-first.result = record { trying = tried; argument = c.argument-first.ensures } in
-    let first_done : FirstDone ((record { library = c.args.library.now; decls = c.args.decls.now; rules = c.args.rules.now; context = c.args.context.now; scratch = c.args.scratch.now; g = c.args.g; m = c.args.m; declaration = c.args.declaration; t = c.args.t; count = c.args.count; nesting = c.args.nesting; })) c.decl_at-role.result.role (record { read = c.argument-first.result; end = c.in-To.q; m = c.in-To.m1; scratch = c.side-got.new.scratch; }) = record { first = first; ran = ran_as c.in-To.is c.side-got.ensures } in
-    let first_is : FirstNumber ((record { library = c.args.library.now; decls = c.args.decls.now; rules = c.args.rules.now; context = c.args.context.now; scratch = c.args.scratch.now; g = c.args.g; m = c.args.m; declaration = c.args.declaration; t = c.args.t; count = c.args.count; nesting = c.args.nesting; })) c.decl_at-role.result.role ((record { read = c.argument-first.result; end = c.in-To.q; m = c.in-To.m1; scratch = c.side-got.new.scratch; })) (value_of c.in-Found.x) = first_number first_done c.number_at-found.ensures c.in-Found.is in
-    let second : Second ((record { library = c.args.library.now; decls = c.args.decls.now; rules = c.args.rules.now; context = c.args.context.now; scratch = c.args.scratch.now; g = c.args.g; m = c.args.m; declaration = c.args.declaration; t = c.args.t; count = c.args.count; nesting = c.args.nesting; })) c.decl_at-role.result.role ((record { read = c.argument-first.result; end = c.in-To.q; m = c.in-To.m1; scratch = c.side-got.new.scratch; })) ((value_of c.in-Found.x)) c.argument-second.result = record { first = first_is; argument = c.argument-second.ensures } in
-    let second_done : SecondDone ((record { library = c.args.library.now; decls = c.args.decls.now; rules = c.args.rules.now; context = c.args.context.now; scratch = c.args.scratch.now; g = c.args.g; m = c.args.m; declaration = c.args.declaration; t = c.args.t; count = c.args.count; nesting = c.args.nesting; })) c.decl_at-role.result.role ((record { read = c.argument-first.result; end = c.in-To.q; m = c.in-To.m1; scratch = c.side-got.new.scratch; })) ((value_of c.in-Found.x)) (record { read = c.argument-second.result; end = c.in-To-next.q2; m = c.in-To-next.m2; scratch = c.side-next.new.scratch; }) = record { second = second; ran = ran_as c.in-To-next.is c.side-next.ensures } in
+    let known : Known (record { library = c.args.library.now; decls = c.args.decls.now; rules = c.args.rules.now; context = c.args.context.now; scratch = c.args.scratch.now; g = c.args.g; m = c.args.m; declaration = c.args.declaration; t = c.args.t; count = c.args.count; nesting = c.args.nesting }) c.decl_at-role.result = record { counted = c.requires.counted; there = c.requires.declaration_in_bounds; is = c.decl_at-role.ensures } in
+    let tried : Trying ((record { library = c.args.library.now; decls = c.args.decls.now; rules = c.args.rules.now; context = c.args.context.now; scratch = c.args.scratch.now; g = c.args.g; m = c.args.m; declaration = c.args.declaration; t = c.args.t; count = c.args.count; nesting = c.args.nesting })) c.decl_at-role.result.role = trying known c.is_tried.ensures c.if-not-is_tried.false-raw c.if-count-ne2.false in
+    let first : First ((record { library = c.args.library.now; decls = c.args.decls.now; rules = c.args.rules.now; context = c.args.context.now; scratch = c.args.scratch.now; g = c.args.g; m = c.args.m; declaration = c.args.declaration; t = c.args.t; count = c.args.count; nesting = c.args.nesting })) c.decl_at-role.result.role c.argument-first.result = record { trying = tried; argument = c.argument-first.ensures } in
+    let first_done : FirstDone ((record { library = c.args.library.now; decls = c.args.decls.now; rules = c.args.rules.now; context = c.args.context.now; scratch = c.args.scratch.now; g = c.args.g; m = c.args.m; declaration = c.args.declaration; t = c.args.t; count = c.args.count; nesting = c.args.nesting })) c.decl_at-role.result.role (record { read = c.argument-first.result; end = c.in-To.q; m = c.in-To.m1; scratch = c.side-got.new.scratch }) = record { first = first; ran = ran_as c.in-To.is c.side-got.ensures } in
+    let first_is : FirstNumber ((record { library = c.args.library.now; decls = c.args.decls.now; rules = c.args.rules.now; context = c.args.context.now; scratch = c.args.scratch.now; g = c.args.g; m = c.args.m; declaration = c.args.declaration; t = c.args.t; count = c.args.count; nesting = c.args.nesting })) c.decl_at-role.result.role ((record { read = c.argument-first.result; end = c.in-To.q; m = c.in-To.m1; scratch = c.side-got.new.scratch })) (value_of c.in-Found.x) = first_number first_done c.number_at-found.ensures c.in-Found.is in
+    let second : Second ((record { library = c.args.library.now; decls = c.args.decls.now; rules = c.args.rules.now; context = c.args.context.now; scratch = c.args.scratch.now; g = c.args.g; m = c.args.m; declaration = c.args.declaration; t = c.args.t; count = c.args.count; nesting = c.args.nesting })) c.decl_at-role.result.role ((record { read = c.argument-first.result; end = c.in-To.q; m = c.in-To.m1; scratch = c.side-got.new.scratch })) ((value_of c.in-Found.x)) c.argument-second.result = record { first = first_is; argument = c.argument-second.ensures } in
+    let second_done : SecondDone ((record { library = c.args.library.now; decls = c.args.decls.now; rules = c.args.rules.now; context = c.args.context.now; scratch = c.args.scratch.now; g = c.args.g; m = c.args.m; declaration = c.args.declaration; t = c.args.t; count = c.args.count; nesting = c.args.nesting })) c.decl_at-role.result.role ((record { read = c.argument-first.result; end = c.in-To.q; m = c.in-To.m1; scratch = c.side-got.new.scratch })) ((value_of c.in-Found.x)) (record { read = c.argument-second.result; end = c.in-To-next.q2; m = c.in-To-next.m2; scratch = c.side-next.new.scratch }) = record { second = second; ran = ran_as c.in-To-next.is c.side-next.ensures } in
     arithmetic_done second_done c.op_of.result c.op_of.ensures c.in-Found-other.y c.compute.result
     c.compute.ensures c.number_at-other.ensures c.in-Found-other.is c.write_outcome.ensures
 
@@ -565,36 +563,36 @@ pub reduce_rec-side-got-requires : goal.reduce_rec-side-got-requires
 reduce_rec-side-got-requires t c =
     let opened : (Opened c.args.library.now c.args.decls.now c.args.rules.now c.args.context.now c.args.scratch.now c.args.g c.args.m c.args.t c.args.count c.args.declaration) c.decl_at-d.result = record { counted = c.requires.counted; there = c.requires.declaration_in_bounds; read = c.decl_at-d.ensures } in
     let majored : (Majored c.args.library.now c.args.decls.now c.args.rules.now c.args.context.now c.args.scratch.now c.args.g c.args.m c.args.t c.args.count c.args.declaration c.args.levels) c.decl_at-d.result c.argument-major.result = record {
-  opened = opened;
-  levelled = c.if-d-levels.false;
-  kind = c.if-d-ne-RECURSOR.false;
-  inside = c.if-count-position.false;
-  major = c.argument-major.ensures;
-} in
+      opened = opened;
+      levelled = c.if-d-levels.false;
+      kind = c.if-d-ne-RECURSOR.false;
+      inside = c.if-count-position.false;
+      major = c.argument-major.ensures;
+    } in
     (omega arith, rec_major_asked majored)
 
 pub reduce_rec-returns-in_default : goal.reduce_rec-returns-in_default
 reduce_rec-returns-in_default t c =
     let opened : (Opened c.args.library.now c.args.decls.now c.args.rules.now c.args.context.now c.args.scratch.now c.args.g c.args.m c.args.t c.args.count c.args.declaration) c.decl_at-d.result = record { counted = c.requires.counted; there = c.requires.declaration_in_bounds; read = c.decl_at-d.ensures } in
     let majored : (Majored c.args.library.now c.args.decls.now c.args.rules.now c.args.context.now c.args.scratch.now c.args.g c.args.m c.args.t c.args.count c.args.declaration c.args.levels) c.decl_at-d.result c.argument-major.result = record {
-  opened = opened;
-  levelled = c.if-d-levels.false;
-  kind = c.if-d-ne-RECURSOR.false;
-  inside = c.if-count-position.false;
-  major = c.argument-major.ensures;
-} in
+      opened = opened;
+      levelled = c.if-d-levels.false;
+      kind = c.if-d-ne-RECURSOR.false;
+      inside = c.if-count-position.false;
+      major = c.argument-major.ensures;
+    } in
     major_stops majored _ c.side-got.ensures c.in_default.is c.as_answer.ensures
 
 pub reduce_rec-constructor_of-requires : goal.reduce_rec-constructor_of-requires
 reduce_rec-constructor_of-requires t c =
     let opened : (Opened c.args.library.now c.args.decls.now c.args.rules.now c.args.context.now c.args.scratch.now c.args.g c.args.m c.args.t c.args.count c.args.declaration) c.decl_at-d.result = record { counted = c.requires.counted; there = c.requires.declaration_in_bounds; read = c.decl_at-d.ensures } in
     let majored : (Majored c.args.library.now c.args.decls.now c.args.rules.now c.args.context.now c.args.scratch.now c.args.g c.args.m c.args.t c.args.count c.args.declaration c.args.levels) c.decl_at-d.result c.argument-major.result = record {
-  opened = opened;
-  levelled = c.if-d-levels.false;
-  kind = c.if-d-ne-RECURSOR.false;
-  inside = c.if-count-position.false;
-  major = c.argument-major.ensures;
-} in
+      opened = opened;
+      levelled = c.if-d-levels.false;
+      kind = c.if-d-ne-RECURSOR.false;
+      inside = c.if-count-position.false;
+      major = c.argument-major.ensures;
+    } in
     let came : (Reached c.args.library.now c.args.decls.now c.args.rules.now c.args.context.now c.args.scratch.now c.args.g c.args.m c.args.t c.args.count c.args.declaration c.args.levels c.decl_at-d.result c.argument-major.result c.args.nesting) c.in-To.q c.in-To.m1 c.side-got.new.scratch = reached majored c.side-got.ensures c.in-To.is in
     major_stands came
 
@@ -608,12 +606,12 @@ pub reduce_rec-by_rule-requires : goal.reduce_rec-by_rule-requires
 reduce_rec-by_rule-requires t c =
     let opened : (Opened c.args.library.now c.args.decls.now c.args.rules.now c.args.context.now c.args.scratch.now c.args.g c.args.m c.args.t c.args.count c.args.declaration) c.decl_at-d.result = record { counted = c.requires.counted; there = c.requires.declaration_in_bounds; read = c.decl_at-d.ensures } in
     let majored : (Majored c.args.library.now c.args.decls.now c.args.rules.now c.args.context.now c.args.scratch.now c.args.g c.args.m c.args.t c.args.count c.args.declaration c.args.levels) c.decl_at-d.result c.argument-major.result = record {
-  opened = opened;
-  levelled = c.if-d-levels.false;
-  kind = c.if-d-ne-RECURSOR.false;
-  inside = c.if-count-position.false;
-  major = c.argument-major.ensures;
-} in
+      opened = opened;
+      levelled = c.if-d-levels.false;
+      kind = c.if-d-ne-RECURSOR.false;
+      inside = c.if-count-position.false;
+      major = c.argument-major.ensures;
+    } in
     let came : (Reached c.args.library.now c.args.decls.now c.args.rules.now c.args.context.now c.args.scratch.now c.args.g c.args.m c.args.t c.args.count c.args.declaration c.args.levels c.decl_at-d.result c.argument-major.result c.args.nesting) c.in-To.q c.in-To.m1 c.side-got.new.scratch = reached majored c.side-got.ensures c.in-To.is in
     let stands : (Built c.args.library.now c.args.decls.now c.args.rules.now c.args.context.now c.args.scratch.now c.args.g c.args.m c.args.t c.args.count c.args.declaration c.args.levels c.decl_at-d.result c.argument-major.result c.args.nesting) c.in-To.q c.in-To.m1 c.side-got.new.scratch c.in-As.c c.in-As.p c.in-As.sp c.in-As.m2 c.constructor_of.new.scratch = built came c.constructor_of.ensures c.in-As.is in
     may_rule stands
@@ -622,12 +620,12 @@ pub reduce_rec-returns-in-Nothing : goal.reduce_rec-returns-in-Nothing
 reduce_rec-returns-in-Nothing t c =
     let opened : (Opened c.args.library.now c.args.decls.now c.args.rules.now c.args.context.now c.args.scratch.now c.args.g c.args.m c.args.t c.args.count c.args.declaration) c.decl_at-d.result = record { counted = c.requires.counted; there = c.requires.declaration_in_bounds; read = c.decl_at-d.ensures } in
     let majored : (Majored c.args.library.now c.args.decls.now c.args.rules.now c.args.context.now c.args.scratch.now c.args.g c.args.m c.args.t c.args.count c.args.declaration c.args.levels) c.decl_at-d.result c.argument-major.result = record {
-  opened = opened;
-  levelled = c.if-d-levels.false;
-  kind = c.if-d-ne-RECURSOR.false;
-  inside = c.if-count-position.false;
-  major = c.argument-major.ensures;
-} in
+      opened = opened;
+      levelled = c.if-d-levels.false;
+      kind = c.if-d-ne-RECURSOR.false;
+      inside = c.if-count-position.false;
+      major = c.argument-major.ensures;
+    } in
     let came : (Reached c.args.library.now c.args.decls.now c.args.rules.now c.args.context.now c.args.scratch.now c.args.g c.args.m c.args.t c.args.count c.args.declaration c.args.levels c.decl_at-d.result c.argument-major.result c.args.nesting) c.in-To.q c.in-To.m1 c.side-got.new.scratch = reached majored c.side-got.ensures c.in-To.is in
     nothing_made came c.constructor_of.ensures c.in-Nothing.is
 
@@ -635,12 +633,12 @@ pub reduce_rec-returns-in-Refused : goal.reduce_rec-returns-in-Refused
 reduce_rec-returns-in-Refused t c =
     let opened : (Opened c.args.library.now c.args.decls.now c.args.rules.now c.args.context.now c.args.scratch.now c.args.g c.args.m c.args.t c.args.count c.args.declaration) c.decl_at-d.result = record { counted = c.requires.counted; there = c.requires.declaration_in_bounds; read = c.decl_at-d.ensures } in
     let majored : (Majored c.args.library.now c.args.decls.now c.args.rules.now c.args.context.now c.args.scratch.now c.args.g c.args.m c.args.t c.args.count c.args.declaration c.args.levels) c.decl_at-d.result c.argument-major.result = record {
-  opened = opened;
-  levelled = c.if-d-levels.false;
-  kind = c.if-d-ne-RECURSOR.false;
-  inside = c.if-count-position.false;
-  major = c.argument-major.ensures;
-} in
+      opened = opened;
+      levelled = c.if-d-levels.false;
+      kind = c.if-d-ne-RECURSOR.false;
+      inside = c.if-count-position.false;
+      major = c.argument-major.ensures;
+    } in
     let came : (Reached c.args.library.now c.args.decls.now c.args.rules.now c.args.context.now c.args.scratch.now c.args.g c.args.m c.args.t c.args.count c.args.declaration c.args.levels c.decl_at-d.result c.argument-major.result c.args.nesting) c.in-To.q c.in-To.m1 c.side-got.new.scratch = reached majored c.side-got.ensures c.in-To.is in
     rows_refused came c.constructor_of.ensures c.in-Refused.is
 
@@ -648,12 +646,12 @@ pub reduce_rec-shape_of-scratch-in-As : goal.reduce_rec-shape_of-scratch-in-As
 reduce_rec-shape_of-scratch-in-As t c =
     let opened : (Opened c.args.library.now c.args.decls.now c.args.rules.now c.args.context.now c.args.scratch.now c.args.g c.args.m c.args.t c.args.count c.args.declaration) c.decl_at-d.result = record { counted = c.requires.counted; there = c.requires.declaration_in_bounds; read = c.decl_at-d.ensures } in
     let majored : (Majored c.args.library.now c.args.decls.now c.args.rules.now c.args.context.now c.args.scratch.now c.args.g c.args.m c.args.t c.args.count c.args.declaration c.args.levels) c.decl_at-d.result c.argument-major.result = record {
-  opened = opened;
-  levelled = c.if-d-levels.false;
-  kind = c.if-d-ne-RECURSOR.false;
-  inside = c.if-count-position.false;
-  major = c.argument-major.ensures;
-} in
+      opened = opened;
+      levelled = c.if-d-levels.false;
+      kind = c.if-d-ne-RECURSOR.false;
+      inside = c.if-count-position.false;
+      major = c.argument-major.ensures;
+    } in
     let came : (Reached c.args.library.now c.args.decls.now c.args.rules.now c.args.context.now c.args.scratch.now c.args.g c.args.m c.args.t c.args.count c.args.declaration c.args.levels c.decl_at-d.result c.argument-major.result c.args.nesting) c.in-To.q c.in-To.m1 c.side-got.new.scratch = reached majored c.side-got.ensures c.in-To.is in
     let stands : (Built c.args.library.now c.args.decls.now c.args.rules.now c.args.context.now c.args.scratch.now c.args.g c.args.m c.args.t c.args.count c.args.declaration c.args.levels c.decl_at-d.result c.argument-major.result c.args.nesting) c.in-To.q c.in-To.m1 c.side-got.new.scratch c.in-As.c c.in-As.p c.in-As.sp c.in-As.m2 c.constructor_of.new.scratch = built came c.constructor_of.ensures c.in-As.is in
     (ruled_left stands c.by_rule.ensures).same_length
@@ -662,12 +660,12 @@ pub reduce_rec-returns-in-As : goal.reduce_rec-returns-in-As
 reduce_rec-returns-in-As t c =
     let opened : (Opened c.args.library.now c.args.decls.now c.args.rules.now c.args.context.now c.args.scratch.now c.args.g c.args.m c.args.t c.args.count c.args.declaration) c.decl_at-d.result = record { counted = c.requires.counted; there = c.requires.declaration_in_bounds; read = c.decl_at-d.ensures } in
     let majored : (Majored c.args.library.now c.args.decls.now c.args.rules.now c.args.context.now c.args.scratch.now c.args.g c.args.m c.args.t c.args.count c.args.declaration c.args.levels) c.decl_at-d.result c.argument-major.result = record {
-  opened = opened;
-  levelled = c.if-d-levels.false;
-  kind = c.if-d-ne-RECURSOR.false;
-  inside = c.if-count-position.false;
-  major = c.argument-major.ensures;
-} in
+      opened = opened;
+      levelled = c.if-d-levels.false;
+      kind = c.if-d-ne-RECURSOR.false;
+      inside = c.if-count-position.false;
+      major = c.argument-major.ensures;
+    } in
     let came : (Reached c.args.library.now c.args.decls.now c.args.rules.now c.args.context.now c.args.scratch.now c.args.g c.args.m c.args.t c.args.count c.args.declaration c.args.levels c.decl_at-d.result c.argument-major.result c.args.nesting) c.in-To.q c.in-To.m1 c.side-got.new.scratch = reached majored c.side-got.ensures c.in-To.is in
     let stands : (Built c.args.library.now c.args.decls.now c.args.rules.now c.args.context.now c.args.scratch.now c.args.g c.args.m c.args.t c.args.count c.args.declaration c.args.levels c.decl_at-d.result c.argument-major.result c.args.nesting) c.in-To.q c.in-To.m1 c.side-got.new.scratch c.in-As.c c.in-As.p c.in-As.sp c.in-As.m2 c.constructor_of.new.scratch = built came c.constructor_of.ensures c.in-As.is in
     ruled_left stands c.by_rule.ensures
