@@ -101,7 +101,7 @@ def command(*options):
     """the program, under the emulator where the processor is another"""
     if platform.machine() == "x86_64":
         return [PROGRAM]
-    kit = os.path.dirname(os.path.dirname(subprocess.run(["rt", "doc"], capture_output=True, text=True).stdout.strip()))
+    kit = os.path.dirname(subprocess.run(["rt", "doc"], capture_output=True, text=True).stdout.strip())
     tools = os.path.join(kit, "on", platform.machine(), "toolchain")
     return [f"{tools}/bin/qemu-x86_64", *options, f"{tools}/lib/ld-linux-x86-64.so.2", "--library-path", f"{tools}/lib", PROGRAM]
 

@@ -4,9 +4,10 @@
 
 use kept::{Kept, fresh};
 use statements::{finish_line, take_token};
+use std::env::FillError;
 use std::io::Read;
 use std::rt::{Env, Files};
-use std::{env, fs, io};
+use std::{fs, io};
 use text::feed;
 
 mod answers;
@@ -24,7 +25,7 @@ const RULE_WORDS: usize = 65536;
 
 const CONTEXT_WORDS: usize = 20485;
 
-// The bytes that are read at once.
+// The bytes that are read at once; the longest name of a file.
 const PIECE: usize = 4096;
 
 fn take_byte(
@@ -135,12 +136,29 @@ fn read_all(
     Ok(())
 }
 
-fn run_from(rt: &(impl Print + Eprint + AllocGlobal), input: &mut impl Read) -> io::Result<()> {
-    let mut library = vec![in rt.alloc(); 0u32; ROW_WORDS]?;
-    let mut scratch = vec![in rt.alloc(); 0u32; ROW_WORDS]?;
-    let mut declarations = vec![in rt.alloc(); 0u32; DECLARATION_WORDS]?;
-    let mut rules = vec![in rt.alloc(); 0u32; RULE_WORDS]?;
-    let mut context = vec![in rt.alloc(); 0u32; CONTEXT_WORDS]?;
+// The five lists, all zero.
+fn no_rows() -> [u32; ROW_WORDS] {
+    [0u32; ROW_WORDS]
+}
+
+fn no_declarations() -> [u32; DECLARATION_WORDS] {
+    [0u32; DECLARATION_WORDS]
+}
+
+fn no_rules() -> [u32; RULE_WORDS] {
+    [0u32; RULE_WORDS]
+}
+
+fn no_records() -> [u32; CONTEXT_WORDS] {
+    [0u32; CONTEXT_WORDS]
+}
+
+fn run_from(rt: &(impl Print + Eprint), input: &mut impl Read) -> io::Result<()> {
+    let mut library = no_rows();
+    let mut scratch = no_rows();
+    let mut declarations = no_declarations();
+    let mut rules = no_rules();
+    let mut context = no_records();
     read_all(
         rt,
         &mut library,
@@ -152,20 +170,26 @@ fn run_from(rt: &(impl Print + Eprint + AllocGlobal), input: &mut impl Read) -> 
     )
 }
 
-fn run_file(rt: &(impl Print + Eprint + AllocGlobal + Files), name: &str) -> io::Result<()> {
+fn run_file(rt: &(impl Print + Eprint + Files), name: &str) -> io::Result<()> {
     match fs::open(rt, name) {
         Ok(mut file) => run_from(rt, &mut file),
         Err(error) => eprintln!(rt; "{name}: {error}"),
     }
 }
 
+// The name as bytes; std's paths are UTF-8.
+fn run_named(rt: &(impl Print + Eprint + Files), name: &[u8]) -> io::Result<()> {
+    match str::from_utf8(name) {
+        Ok(name) => run_file(rt, name),
+        Err(_) => eprintln!(rt; "the file's name: it is not UTF-8"),
+    }
+}
+
 fn main(rt: HostRuntime) -> io::Result<()> {
-    let mut args = match env::args(&rt) {
-        Ok(args) => args,
-        Err(error) => return eprintln!(rt; "the file's name: {error}"),
-    };
-    match args.nth(1) {
-        Some(name) => run_file(&rt, name.as_str()),
-        None => run_from(&rt, &mut rt.reader()),
+    let mut name = [0u8; PIECE];
+    match rt.arg(1, &mut name) {
+        Ok(n) => run_named(&rt, &name[..n]),
+        Err(FillError::NotPresent) => run_from(&rt, &mut rt.reader()),
+        Err(FillError::TooLong) => eprintln!(rt; "the file's name: File name too long"),
     }
 }

@@ -3,7 +3,6 @@
 #![tactic(auto)]
 
 use rows::Ptr;
-use std::alloc::{AllocError, Global};
 use std::io;
 use tables::accept::Verdict;
 
@@ -209,12 +208,12 @@ fn length_case(
     write_verdict(rt, verdict)
 }
 
-fn many_words(alloc: Global) -> Result<Vec<u32>, AllocError> {
-    vec![in alloc; 0; 1048580]
+fn many_words() -> [u32; 1048580] {
+    [0u32; 1048580]
 }
 
-fn many_zeros(alloc: Global) -> Result<Vec<u32>, AllocError> {
-    vec![in alloc; 0; 65552]
+fn many_zeros() -> [u32; 65552] {
+    [0u32; 65552]
 }
 
 // Kind 1, height 1.
@@ -237,7 +236,7 @@ fn sorts(words: &mut [u32]) {
 
 // Lists of this many records, all right, at their maxima or one past.
 fn large_case(
-    rt: &(impl Print + AllocGlobal),
+    rt: &impl Print,
     rows: usize,
     decls: usize,
     rules: usize,
@@ -246,9 +245,9 @@ fn large_case(
     mark: u32,
     depth: u32,
 ) -> io::Result<()> {
-    let mut words = many_words(rt.alloc())?;
+    let mut words = many_words();
     sorts(&mut words);
-    let zeros = many_zeros(rt.alloc())?;
+    let zeros = many_zeros();
     print!(rt; "large {rows} {decls} {rules} {records} {used} {mark} {depth}")?;
     let term = Ptr { row: 0, shift: 0 };
     let verdict = tables::accept::accept(
@@ -365,7 +364,7 @@ fn lengths(rt: &impl Print) -> io::Result<()> {
     length_case(rt, 36, 96, 280, 15, 9)
 }
 
-fn maxima(rt: &(impl Print + AllocGlobal)) -> io::Result<()> {
+fn maxima(rt: &impl Print) -> io::Result<()> {
     large_case(rt, 589824, 65536, 1048576, 20480, 589824, 65536, 4096)?;
     large_case(rt, 589833, 65536, 1048576, 20480, 589824, 65536, 4096)?;
     large_case(rt, 589824, 65552, 1048576, 20480, 589824, 65536, 4096)?;

@@ -1,3 +1,4 @@
+-- The measure: the levels that may follow, twice, and a rank.
 use Prim.Native.Nat.{◌+◌, ◌*◌}
 use Rattle.readout.proofs.+put_field_put_term.Given as goal
 

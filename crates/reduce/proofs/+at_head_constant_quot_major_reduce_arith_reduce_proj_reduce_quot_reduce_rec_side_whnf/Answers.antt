@@ -1,18 +1,5 @@
--- `reduce::whnf`, with the eight functions that it shares a cycle of calls with, meets its contract; a file for each member.
+-- `reduce::whnf`, with the eight functions that it shares a cycle of calls with, meets its contract; the answers member by member.
 -- Assumes nothing.
--- The rules at the head, by the kind that was read there. Assumes nothing.
--- A constant: the four rules in order. Assumes nothing.
--- The measure of the cycle: remaining nesting, and a rank. A side reduction has one level less; within a level each call goes down in rank.
--- What each member is given and learns, named once. Assumes nothing: these are definitions.
--- Quot.lift and Quot.ind, with the major at a position. Assumes nothing.
--- Arithmetic: two side reductions, two numbers, the outcome written. The places of the code are named first, with what is known there.
--- Assumes nothing.
--- Projection: one side reduction, a field, its firing. Assumes nothing.
--- Which of the two quotient rules a role asks for. Assumes nothing.
--- A recursor: one side reduction, the constructor, its rule. The places of the code are named first, with what is known there.
--- Assumes nothing.
--- A side reduction: one level deeper, or 6. Assumes nothing.
--- The loop over firings. Assumes nothing.
 use native.Mathlib.Omega.{arith}
 use Rattle.rows.proofs.Store.{used_stands}
 use Rattle.rows.proofs.Lookup.{nine_read, shape_read}
@@ -45,6 +32,8 @@ use Rattle.reduce.proofs.RecNeeds.{Reached, reached, major_stands, nothing_made,
 use Rattle.reduce.proofs.Levels.{no_level_left, one_level_deeper}
 use Rattle.reduce.proofs.Loop.{going_begins, going_on, fewer_left, going_ends, going_stops, going_length}
 use Rattle.reduce.proofs.+at_head_constant_quot_major_reduce_arith_reduce_proj_reduce_quot_reduce_rec_side_whnf.Goals as goal
+
+-- AT_HEAD: the rules at the head, by the kind that was read there.
 
 -- THE HEAD IS READ
 pub at_head-head_of-s-requires : goal.at_head-head_of-s-requires
@@ -226,6 +215,8 @@ at_head-returns t c =
     } in
     no_rule_there seen _ c.if-kind-eq-VARIABLE.false c.if-kind-eq-CONSTANT.false c.if-kind-eq-LAMBDA.false c.if-kind-eq-LET.false c.if-kind-eq-PROJECTION.false
 
+-- CONSTANT: the four rules in order.
+
 -- QUOTIENTS
 pub constant-reduce_quot-by_quot-requires : goal.constant-reduce_quot-by_quot-requires
 constant-reduce_quot-by_quot-requires t c = (omega (arith, c.decreases), (c.requires.counted, c.requires.declaration_in_bounds))
@@ -286,6 +277,7 @@ constant-returns t c =
 pub constant-shape_of-scratch : goal.constant-shape_of-scratch
 constant-shape_of-scratch t c = (constant-returns t c).same_length
 
+-- QUOT_MAJOR: Quot.lift and Quot.ind, with the major at a position.
 pub quot_major-returns-then-count-position : goal.quot_major-returns-then-count-position
 quot_major-returns-then-count-position t c = no_major c.requires.counted _ _ c.if-count-position.true
 
@@ -335,6 +327,8 @@ quot_major-returns t c =
     let came : Came c.args.library.now c.args.decls.now c.args.rules.now c.args.context.now c.args.scratch.now c.args.g c.args.m c.args.t c.args.count c.args.nesting c.argument-major.result c.side-got.new.scratch c.in-To.q c.in-To.m1 = record { given = c.requires.counted; scope = major_scope major; ran = ran_as c.in-To.is c.side-got.ensures } in
     element_given major came c.quot_made-found.ensures c.in-Found.is c.argument-f.ensures
     c.give_with.ensures
+
+-- REDUCE_ARITH: two side reductions, two numbers, the outcome written.
 
 -- NEEDS
 pub reduce_arith-decl_at-role-requires : goal.reduce_arith-decl_at-role-requires
@@ -492,6 +486,7 @@ reduce_arith-returns t c =
     arithmetic_done second_done c.op_of.result c.op_of.ensures c.in-Found-other.y c.compute.result
     c.compute.ensures c.number_at-other.ensures c.in-Found-other.is c.write_outcome.ensures
 
+-- REDUCE_PROJ: one side reduction, a field, its firing.
 pub reduce_proj-side-got-requires : goal.reduce_proj-side-got-requires
 reduce_proj-side-got-requires t c = (side_falls _ c.decreases, record { stand = c.requires.counted.asked.stand; scope = c.requires.in_scope })
 
@@ -518,6 +513,7 @@ reduce_proj-returns t c =
     let came : Came c.args.library.now c.args.decls.now c.args.rules.now c.args.context.now c.args.scratch.now c.args.g c.args.m c.args.t c.args.count c.args.nesting c.args.structure c.side-got.new.scratch c.in-To.q c.in-To.m1 = record { given = c.requires.counted; scope = c.requires.in_scope; ran = ran_as c.in-To.is c.side-got.ensures } in
     field_given came c.field_at-found.ensures c.in-Found.is c.give.ensures
 
+-- REDUCE_QUOT: which of the two quotient rules a role asks for.
 pub reduce_quot-decl_at-role-requires : goal.reduce_quot-decl_at-role-requires
 reduce_quot-decl_at-role-requires t c = omega arith
 
@@ -536,6 +532,7 @@ reduce_quot-returns-then-role-eq-QUOT_IND t c = inducts c.requires.counted _ _ c
 pub reduce_quot-returns : goal.reduce_quot-returns
 reduce_quot-returns t c = no_quotient c.requires.counted _ _ c.requires.declaration_in_bounds c.decl_at-role.ensures c.if-role-eq-QUOT_LIFT.false c.if-role-eq-QUOT_IND.false
 
+-- REDUCE_REC: one side reduction, the constructor, its rule.
 pub reduce_rec-returns-then-d-levels : goal.reduce_rec-returns-then-d-levels
 reduce_rec-returns-then-d-levels t c =
     let opened : (Opened c.args.library.now c.args.decls.now c.args.rules.now c.args.context.now c.args.scratch.now c.args.g c.args.m c.args.t c.args.count c.args.declaration) c.decl_at-d.result = record { counted = c.requires.counted; there = c.requires.declaration_in_bounds; read = c.decl_at-d.ensures } in
@@ -670,6 +667,7 @@ reduce_rec-returns-in-As t c =
     let stands : (Built c.args.library.now c.args.decls.now c.args.rules.now c.args.context.now c.args.scratch.now c.args.g c.args.m c.args.t c.args.count c.args.declaration c.args.levels c.decl_at-d.result c.argument-major.result c.args.nesting) c.in-To.q c.in-To.m1 c.side-got.new.scratch c.in-As.c c.in-As.p c.in-As.sp c.in-As.m2 c.constructor_of.new.scratch = built came c.constructor_of.ensures c.in-As.is in
     ruled_left stands c.by_rule.ensures
 
+-- SIDE: one level deeper, or 6.
 pub side-returns-then-nesting-eq0 : goal.side-returns-then-nesting-eq0
 side-returns-then-nesting-eq0 t c = no_level_left _ _ _ _ _ c.args.g _ _ _ c.if-nesting-eq0.true
 
@@ -679,6 +677,7 @@ side-whnf-requires t c = (omega (arith, c.decreases, c.if-nesting-eq0.false), c.
 pub side-returns : goal.side-returns
 side-returns t c = one_level_deeper _ _ _ _ _ c.args.g _ _ _ c.if-nesting-eq0.false c.whnf.ensures
 
+-- WHNF: the loop over firings.
 pub whnf-loop-q-init : goal.whnf-loop-q-init
 whnf-loop-q-init t c = going_begins _ c.requires
 

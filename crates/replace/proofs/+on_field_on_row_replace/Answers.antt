@@ -1,11 +1,5 @@
--- `replace::replace`, with the two functions that it shares a cycle of calls with, meets its contract; a file for each member.
+-- `replace::replace`, with the two functions that it shares a cycle of calls with, meets its contract; the answers member by member.
 -- Assumes nothing.
--- The measure of the cycle: three times the recorded height, and a rank. A row's fields are lower than the row; a pointer's row is no
--- higher. What each member is given and learns, named once. Assumes nothing: these are definitions.
--- A field of a row: a plain word stays, a term is replaced in, a body at the next cutoff. Assumes nothing.
--- A row: a variable, or its fields in turn and then the new row. The places of the code are named first, with what is known there.
--- Assumes nothing.
--- A pointer: it stays, its shift moves, or its row is replaced in and the result shifted up. Assumes nothing.
 use borrow.Author.Rules.{rules}
 use native.Mathlib.Omega.{arith}
 use Rattle.replace.proofs.Fields.{field_falls, plain_done, term_ready, term_done, body_ready, body_done}
@@ -20,6 +14,7 @@ use Rattle.replace.proofs.Pointers.{rank_falls, pointer_stands, same_done, moved
 use Rattle.replace.proofs.Pointers.{inside_stands, inside_shift, inside_done}
 use Rattle.replace.proofs.+on_field_on_row_replace.Goals as goal
 
+-- ON_FIELD: a plain word stays, a term is replaced in, a body at the next cutoff.
 pub on_field-returns-then-tag-eq0 : goal.on_field-returns-then-tag-eq0
 on_field-returns-then-tag-eq0 t c = plain_done _ _ _ _ _ _ _ _ c.requires c.if-tag-eq0.true
 
@@ -38,6 +33,7 @@ on_field-replace-requires-2 t c = (field_falls _ _ _ _ _ _ c.if-tag-eq0.false c.
 pub on_field-returns : goal.on_field-returns
 on_field-returns t c = body_done _ _ _ _ _ _ _ _ c.if-tag-eq0.false c.if-tag-eq1.false _ _ c.replace-2.ensures
 
+-- ON_ROW: a variable, or its fields in turn and then the new row.
 pub on_row-row_at-requires : goal.on_row-row_at-requires
 on_row-row_at-requires t c = row_stands _ _ _ _ _ _ _ c.requires
 
@@ -146,6 +142,7 @@ on_row-returns t c =
     let o = opened in
     made_row o turn₀ turn₁ turn₂ c.make.ensures
 
+-- REPLACE: a pointer stays, its shift moves, or its row is replaced in and the result shifted up.
 pub replace-ptr_bound-requires : goal.replace-ptr_bound-requires
 replace-ptr_bound-requires t c = pointer_stands _ _ _ _ _ _ _ c.requires
 

@@ -1,3 +1,4 @@
+-- The measure: three times the recorded height, and a rank. A row's fields are lower than the row; a pointer's row is no higher.
 use Prim.Native.Nat.{◌+◌, ◌*◌}
 use Rattle.rules.specs.Rows.{field_height}
 use Rattle.rows.specs.Words.{ptr_of, store_of}

@@ -4,7 +4,7 @@ use borrow.Author.Rules.{rules}
 use native.Mathlib.Omega.{arith}
 use mathlib.Core.Path.{refl}
 use Prim.Native.Nat.{◌*◌}
-use borrow.Author.Tests.{not-true, not-false}
+use borrow.Author.Tests.{not-true}
 use Rattle.rows.specs.Words.{words_of}
 use Rattle.rows.specs.Checks.{Within}
 use Rattle.rows.specs.Writes.{too_large, none_free, at_mark}
@@ -16,22 +16,22 @@ returns-then-not-small c = too_large (c.within-small.ensures.no (not-true _ c.if
 
 pub returns-then-scratch-end : goal.returns-then-scratch-end
 returns-then-scratch-end c =
-    let small : Within c.args.size = c.within-small.ensures.yes (not-false _ c.if-not-small.false-raw) in
+    let small : Within c.args.size = search (rules, c.within-small.ensures.yes) in
     none_free small c.if-scratch-end.true
 
 pub overflow_cast-size : goal.overflow_cast-size
 overflow_cast-size c =
-    let small : Within c.args.size = c.within-small.ensures.yes (not-false _ c.if-not-small.false-raw) in
+    let small : Within c.args.size = search (rules, c.within-small.ensures.yes) in
     let size = small in omega arith
 
 pub overflow_cast-size-2 : goal.overflow_cast-size-2
 overflow_cast-size-2 c =
-    let small : Within c.args.size = c.within-small.ensures.yes (not-false _ c.if-not-small.false-raw) in
+    let small : Within c.args.size = search (rules, c.within-small.ensures.yes) in
     let size = small in omega arith
 
 pub returns : goal.returns
 returns c =
-    let small : Within c.args.size = c.within-small.ensures.yes (not-false _ c.if-not-small.false-raw) in
+    let small : Within c.args.size = search (rules, c.within-small.ensures.yes) in
     let args = c.args in
     let words = words_of args.w args.size.bound args.size.height in
     at_mark small c.if-scratch-end.false refl (pasted args.scratch.now words _ (9 * args.mark) (search rules) c.fill.ensures)
