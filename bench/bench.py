@@ -3,8 +3,8 @@
 per second by the clock, which do. `bench/bench.py` prints a table in Markdown.
 
 A load is run once as it is and once with a call that takes no step over the same table, so that reading the text and acceptance fall away;
-what is left is divided by the steps. Instructions are counted by valgrind's callgrind on x86-64; elsewhere the toolchain's emulator, which
-then runs the program, writes a line for each instruction, and the lines are counted."""
+what is left is divided by the steps. Instructions are counted by valgrind's callgrind on x86-64; elsewhere an older toolchain's emulator,
+which today's has no more, ran the program and wrote a line for each instruction, and the lines were counted."""
 import os, platform, re, subprocess, sys, tempfile, time
 
 ROOT = os.path.dirname(os.path.dirname(os.path.abspath(__file__)))

