@@ -1,5 +1,5 @@
 """The answers of replace_run's cases, from the paper's text on replacement and on rows: `answers.py > stdout`. It reads nothing of the program.
-`answers.py rows` and `answers.py cases` print the library's words and the calls, for the program."""
+`answers.py rows` and `answers.py cases` print the library's words and the cases, for the program."""
 import sys
 
 TABLE = ["...", "...", "...", "tt.", "tb.", "tb.", "ttb", "t..", "..."]  # plain word, term, body; by kind
@@ -102,7 +102,8 @@ if sys.argv[1:] == ["rows"]:
     print(", ".join(str(w) for words in library for w in words))
 elif sys.argv[1:] == ["cases"]:
     for name, p, c, v, n, k, free in CASES:
-        print(f'    run(b"{name}", at({p[0]}, {p[1]}), {c}, sub({v[0]}, {v[1]}, {n}, {k}), {free});')
+        value = f"Some(({v[0]}, {v[1]}))" if n else "None"
+        print(f'    ("{name}", ({p[0]}, {p[1]}), {c}, {value}, {k}, {free}),')
 else:
     for name, p, c, v, n, k, free in CASES:
         rows = [list(words) for words in library]

@@ -1,4 +1,1 @@
-pub mod Settled
-pub mod Halves
-pub mod Division
 pub mod Determined

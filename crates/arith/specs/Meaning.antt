@@ -1,12 +1,13 @@
 -- What the types of src/ mean in the document's terms, and what an operation's result comes out as.
 -- Assumes nothing.
-use Rattle.std.specs.Prelude.{Bool, true, false, ℕ, ◌/◌, ◌%◌, ◌-◌, ◌^◌, leb}
+use Rattle.std.specs.Prelude.{Bool, true, false, Result, Ok, Err, ℕ, ◌/◌, ◌%◌, ◌-◌, ◌^◌, leb}
 use Rattle.rules.specs.Arithmetic as rules
 use Rattle.arith.specs.declared.Number as numbers
 use Rattle.arith.specs.declared.Op.{Op}
 use Rattle.arith.specs.declared.Op.TheVariants.{Add, Sub, Mul, Div, Mod, Beq, Ble}
-use Rattle.arith.specs.declared.Outcome.{Outcome}
-use Rattle.arith.specs.declared.Outcome.TheVariants.{Number, Truth, TooLarge}
+use Rattle.arith.specs.declared.Value.{Value}
+use Rattle.arith.specs.declared.Value.TheVariants.{Number, Truth}
+use Rattle.arith.specs.declared.TooLarge.{TooLarge}
 
 abbrev pub op_of : Op → rules.Op
 op_of Add = rules.add
@@ -29,10 +30,14 @@ pub data Said : Type 0 where
   truth : Bool → Said
   refusal : ℕ → Said
 
+-- what a computation answers
+abbrev pub Outcome : Type 0
+Outcome = Result Value TooLarge
+
 abbrev pub meaning : Outcome → Said
-meaning (Number n) = words n.low n.high
-meaning (Truth b) = truth b
-meaning TooLarge = refusal 7
+meaning (Ok (Number n)) = words n.low n.high
+meaning (Ok (Truth b)) = truth b
+meaning (Err e) = refusal 7
 
 abbrev pub pick : Bool → Said → Said → Said
 pick true x y = x

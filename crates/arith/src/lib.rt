@@ -1,24 +1,43 @@
 // The seven operations on numbers of two words, against plain arithmetic on numbers of any size (the rules' Arithmetic).
-// A result over 2^64 - 1 is the document's refusal 7. Nothing here is wider than 64 bits: a product is made from halves.
+// A result over 2^64 - 1 is the document's refusal 7. Nothing here is wider than 64 bits: std's operations tell where one does not fit.
 #![tactic(auto)]
 
-ghost use Rattle.std.specs.Prelude.{◌≡◌, ◌+◌, ◌*◌, ◌-◌};
-ghost use Rattle.rules.specs.Arithmetic.{number, quotient, remainder};
+ghost use Rattle.std.specs.Prelude.{◌≡◌};
 ghost use Rattle.rules.specs.Arithmetic.{compute as rules_compute};
 ghost use Rattle.arith.specs.Meaning.{op_of, value_of, words_of, meaning, settled};
 
-// A number is its low word and BASE times its high word; LARGEST is the largest of two words.
+use std::error::Error;
+use std::fmt;
+
+// A number is its low word and BASE times its high word.
 const BASE: u64 = 0x1_0000_0000;
 
-const LARGEST: u64 = 0xffff_ffff_ffff_ffff;
-
-#[derive(Clone, Copy)]
+#[derive(Clone, Copy, Debug, PartialEq, Eq)]
 pub struct Number {
     pub low: u32,
     pub high: u32,
 }
 
-#[derive(Clone, Copy)]
+impl From<Number> for u64 {
+    ghost from_gives = { λ n v. v ≡ value_of n };
+
+    fn from(n: Number) -> u64 {
+        u64::from(n.low) + BASE * u64::from(n.high)
+    }
+}
+
+impl From<u64> for Number {
+    ghost from_gives = { λ v n. n ≡ words_of v };
+
+    fn from(v: u64) -> Number {
+        Number {
+            low: (v % BASE) as u32,
+            high: (v / BASE) as u32,
+        }
+    }
+}
+
+#[derive(Clone, Copy, Debug, PartialEq, Eq)]
 pub enum Op {
     Add,
     Sub,
@@ -29,102 +48,51 @@ pub enum Op {
     Ble,
 }
 
-// What comes out. TooLarge is refusal 7.
-#[derive(Clone, Copy)]
-pub enum Outcome {
+// What comes out.
+#[derive(Clone, Copy, Debug, PartialEq, Eq)]
+pub enum Value {
     Number(Number),
     Truth(bool),
-    TooLarge,
 }
 
-pub fn value(n: Number) -> u64
-    ensures { result ≡ value_of n }
-{
-    (n.low as u64) + BASE * (n.high as u64)
-}
+impl From<u64> for Value {
+    ghost use Rattle.std.specs.Prelude.{Ok};
+    ghost use Rattle.rules.specs.Arithmetic.{number};
 
-pub fn number_of(v: u64) -> Number
-    ensures { result ≡ words_of v }
-{
-    Number {
-        low: (v % BASE) as u32,
-        high: (v / BASE) as u32,
+    ghost from_gives = { λ v r. meaning (Ok r) ≡ settled (number v) };
+
+    #[tactic(auto, unfolding(crate::specs::Meaning::settled))]
+    fn from(v: u64) -> Value {
+        Value::Number(Number::from(v))
     }
 }
 
-// How each operation ends whose number fits: in the number's two words.
-fn fitting(v: u64) -> Outcome
-    ensures { meaning result ≡ settled (number v) }
-{
-    Outcome::Number(number_of(v))
-}
+// A number over 2^64 - 1: refusal 7.
+#[derive(Clone, Copy, Debug, PartialEq, Eq)]
+pub struct TooLarge;
 
-fn add(x: u64, y: u64) -> Outcome
-    ensures { meaning result ≡ settled (number (x + y)) }
-{
-    if LARGEST - x < y {
-        return Outcome::TooLarge;
+impl fmt::Display for TooLarge {
+    fn fmt<W: fmt::Write>(&self, f: &mut fmt::Formatter<W>) -> fmt::Result {
+        f.write_str("a number over 18446744073709551615")
     }
-    fitting(x + y)
 }
 
-// The subtraction of naturals: it stops at 0.
-fn sub(x: u64, y: u64) -> u64
-    ensures { result ≡ x - y }
-{
-    if x < y { 0 } else { x - y }
-}
+impl Error for TooLarge {}
 
-// A number times a word, by halves: low * w + 2^32 * (high * w). A product of two words is below 2^64, so only the high one,
-// which 2^32 multiplies, and the sum can be too large.
-fn mul_word(n: Number, w: u32) -> Outcome
-    ensures { meaning result ≡ settled (number (value_of n * w)) }
-{
-    let high = (n.high as u64) * (w as u64);
-    if BASE <= high {
-        return Outcome::TooLarge;
-    }
-    let low = (n.low as u64) * (w as u64);
-    add(low, BASE * high)
-}
-
-// Where neither number is a single word, both are 2^32 or more, and the product is 2^64 or more.
-fn mul(x: Number, y: Number) -> Outcome
-    ensures { meaning result ≡ settled (number (value_of x * value_of y)) }
-{
-    if y.high == 0 {
-        return mul_word(x, y.low);
-    }
-    if x.high == 0 {
-        return mul_word(y, x.low);
-    }
-    Outcome::TooLarge
-}
-
-fn div(x: u64, y: u64) -> u64
-    ensures { result ≡ quotient x y }
-{
-    if y == 0 { 0 } else { x / y }
-}
-
-fn modulo(x: u64, y: u64) -> u64
-    ensures { result ≡ remainder x y }
-{
-    if y == 0 { x } else { x % y }
-}
-
-pub fn compute(op: Op, x: Number, y: Number) -> Outcome
+// The subtraction of naturals stops at 0; by 0, the quotient is 0 and the remainder the dividend.
+#[tactic(auto, unfolding(crate::specs::Meaning::settled, rules::specs::Arithmetic::compute))]
+pub fn compute(op: Op, x: Number, y: Number) -> Result<Value, TooLarge>
     ensures { meaning result ≡ settled (rules_compute (op_of op) (value_of x) (value_of y)) }
 {
-    let a = value(x);
-    let b = value(y);
+    let x = u64::from(x);
+    let y = u64::from(y);
     match op {
-        Op::Add => add(a, b),
-        Op::Sub => fitting(sub(a, b)),
-        Op::Mul => mul(x, y),
-        Op::Div => fitting(div(a, b)),
-        Op::Mod => fitting(modulo(a, b)),
-        Op::Beq => Outcome::Truth(a == b),
-        Op::Ble => Outcome::Truth(a <= b),
+        Op::Add => Ok(Value::from(x.checked_add(y).ok_or(TooLarge)?)),
+        Op::Sub => Ok(Value::from(x.saturating_sub(y))),
+        Op::Mul => Ok(Value::from(x.checked_mul(y).ok_or(TooLarge)?)),
+        Op::Div => Ok(Value::from(x.checked_div(y).unwrap_or(0))),
+        Op::Mod => Ok(Value::from(x.checked_rem(y).unwrap_or(x))),
+        Op::Beq => Ok(Value::Truth(x == y)),
+        Op::Ble => Ok(Value::Truth(x <= y)),
     }
 }

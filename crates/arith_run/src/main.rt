@@ -2,59 +2,38 @@
 // The file stdout has what integers of any size give there: answers.py makes it, without this program.
 #![tactic(auto)]
 
-use arith::{Op, Outcome};
+use arith::{Number, Op, TooLarge, Value};
 use std::io;
 
-const WORD_END: u64 = 0xffff_ffff;
+const OPERATIONS: [(Op, &str); 7] = [
+    (Op::Add, "add"),
+    (Op::Sub, "sub"),
+    (Op::Mul, "mul"),
+    (Op::Div, "div"),
+    (Op::Mod, "mod"),
+    (Op::Beq, "beq"),
+    (Op::Ble, "ble"),
+];
 
-const TWO_32: u64 = 0x1_0000_0000;
-
-const TWO_63: u64 = 0x8000_0000_0000_0000;
-
-const END: u64 = 0xffff_ffff_ffff_ffff;
-
-fn write_outcome(rt: &impl Print, outcome: Outcome) -> io::Result<()> {
-    match outcome {
-        Outcome::Number(n) => print!(rt; "{}", arith::value(n)),
-        Outcome::Truth(yes) => print!(rt; "{yes}"),
-        Outcome::TooLarge => print!(rt; "refused 7"),
-    }
-}
+const VALUES: [u64; 6] = [0, 1, (1 << 32) - 1, 1 << 32, 1 << 63, u64::MAX];
 
 // A line: `add 1 2 = 3`.
 fn write_case(rt: &impl Print, op: Op, name: &str, x: u64, y: u64) -> io::Result<()> {
     print!(rt; "{name} {x} {y} = ")?;
-    write_outcome(
-        rt,
-        arith::compute(op, arith::number_of(x), arith::number_of(y)),
-    )?;
-    println!(rt)
-}
-
-fn write_row(rt: &impl Print, op: Op, name: &str, x: u64) -> io::Result<()> {
-    write_case(rt, op, name, x, 0)?;
-    write_case(rt, op, name, x, 1)?;
-    write_case(rt, op, name, x, WORD_END)?;
-    write_case(rt, op, name, x, TWO_32)?;
-    write_case(rt, op, name, x, TWO_63)?;
-    write_case(rt, op, name, x, END)
-}
-
-fn write_pairs(rt: &impl Print, op: Op, name: &str) -> io::Result<()> {
-    write_row(rt, op, name, 0)?;
-    write_row(rt, op, name, 1)?;
-    write_row(rt, op, name, WORD_END)?;
-    write_row(rt, op, name, TWO_32)?;
-    write_row(rt, op, name, TWO_63)?;
-    write_row(rt, op, name, END)
+    match arith::compute(op, Number::from(x), Number::from(y)) {
+        Ok(Value::Number(n)) => println!(rt; "{}", u64::from(n)),
+        Ok(Value::Truth(yes)) => println!(rt; "{yes}"),
+        Err(TooLarge) => println!(rt; "refused 7"),
+    }
 }
 
 fn main(rt: HostRuntime) -> io::Result<()> {
-    write_pairs(&rt, Op::Add, "add")?;
-    write_pairs(&rt, Op::Sub, "sub")?;
-    write_pairs(&rt, Op::Mul, "mul")?;
-    write_pairs(&rt, Op::Div, "div")?;
-    write_pairs(&rt, Op::Mod, "mod")?;
-    write_pairs(&rt, Op::Beq, "beq")?;
-    write_pairs(&rt, Op::Ble, "ble")
+    for (op, name) in OPERATIONS {
+        for x in VALUES {
+            for y in VALUES {
+                write_case(&rt, op, name, x, y)?;
+            }
+        }
+    }
+    Ok(())
 }

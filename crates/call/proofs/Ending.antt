@@ -16,8 +16,7 @@ use Rattle.tables.specs.Read.{HoldersOf}
 use Rattle.tables.specs.Verdicts.{lent_of, env_in, store_in}
 use Rattle.state.specs.declared.Given.{Given}
 use Rattle.state.specs.declared.Meter.{Meter}
-use Rattle.state.specs.declared.Reduced.{Reduced}
-use Rattle.state.specs.declared.Reduced.TheVariants.{To, Refused}
+use Rattle.state.specs.State.{Reduced}
 use Rattle.state.specs.State.{tally_of}
 use Rattle.cycle.specs.Cycle.{Asked, Ran, res_as, res_by}
 use Rattle.cycle.proofs.Standing.{after_side}
@@ -25,6 +24,9 @@ use Rattle.cycle.proofs.Accepting.{accepted_asked}
 use Rattle.cycle.proofs.NewRows.{rows_counted, mark_moved, new_row_stands}
 use Rattle.reduce.proofs.Sides.{ran_as}
 use Rattle.call.specs.Answers.{GivenBy, zeroed_from}
+use Rattle.std.specs.Prelude.{Err, Ok}
+use Rattle.rows.specs.Refusals.{number_of}
+use Rattle.rows.specs.declared.refusals.Refusal.{Refusal}
 
 -- WHAT IS ASKED, with the numbers where the cycle has them
 module _ (l ds rs cs sc : List ℕ) (mark : ℕ) (p : Ptr) (nesting : ℕ) (g : Given) where
@@ -47,8 +49,8 @@ module _ (l ds rs cs sc : List ℕ) (mark : ℕ) (p : Ptr) (nesting : ℕ) (g : 
         ∙ sym ran.says
 
     -- REFUSED: the rows are given back
-    refused : {k : ℕ} {sc₁ sc₂ : List ℕ} → Ran l sc start (Refused k) sc₁ (res_by l ds rs cs sc g start (suc nesting) (ptr_of p)) → sc₂ ≡ zeroed_from (9 * mark) sc₁ →
-        Whnf lent (call.refused k 0) (record { mark = mark; scratch = sc₂; context = cs })
+    refused : {k : Refusal} {sc₁ sc₂ : List ℕ} → Ran l sc start (Err k) sc₁ (res_by l ds rs cs sc g start (suc nesting) (ptr_of p)) → sc₂ ≡ zeroed_from (9 * mark) sc₁ →
+        Whnf lent (call.refused (number_of k) 0) (record { mark = mark; scratch = sc₂; context = cs })
     refused ran zeros =
         refuses a (eval_refused (accepted_ready a) (evaluated ran))
         (record {
@@ -58,7 +60,7 @@ module _ (l ds rs cs sc : List ℕ) (mark : ℕ) (p : Ptr) (nesting : ℕ) (g : 
         })
 
     -- A TERM: its rows stand past the old mark
-    module _ {q : Ptr} {m₁ : Meter} {sc₁ : List ℕ} (ran : Ran l sc start (To q m₁) sc₁ (res_by l ds rs cs sc g start (suc nesting) (ptr_of p))) where
+    module _ {q : Ptr} {m₁ : Meter} {sc₁ : List ℕ} (ran : Ran l sc start (Ok (q, m₁)) sc₁ (res_by l ds rs cs sc g start (suc nesting) (ptr_of p))) where
       there : Asked l ds rs cs sc₁ g m₁ q
       there = (after_side asked.stand (suc nesting) asked.scope ran).asked
 
@@ -99,13 +101,13 @@ module _ {l ds rs cs sc : List ℕ} {depth mark : ℕ} {p : Ptr} {steps nesting 
   may_reduce = asked l ds rs cs sc mark p nesting g accepted_given by.holders by.rows
 
   module _ {r : Reduced} {sc₁ : List ℕ} (ran : Ran l sc (record { mark = mark; steps = 0 }) r sc₁ (res_by l ds rs cs sc g (record { mark = mark; steps = 0 }) (suc nesting) (ptr_of p))) where
-    pub mark_moves : {q : Ptr} {m₁ : Meter} → r ≡ To q m₁ → mark ≤ m₁.mark
+    pub mark_moves : {q : Ptr} {m₁ : Meter} → r ≡ Ok (q, m₁) → mark ≤ m₁.mark
     mark_moves is = upward l ds rs cs sc mark p nesting g accepted_given by.holders by.rows (ran_as is ran)
 
-    pub to_term : {q : Ptr} {m₁ : Meter} → r ≡ To q m₁ →
+    pub to_term : {q : Ptr} {m₁ : Meter} → r ≡ Ok (q, m₁) →
         Whnf (words depth steps) (call.term (ptr_of q) m₁.steps (m₁.mark - mark)) (record { mark = m₁.mark; scratch = sc₁; context = cs })
     to_term is = given_back (answered l ds rs cs sc mark p nesting g accepted_given by.holders by.rows (ran_as is ran))
 
-    pub to_refusal : {k : ℕ} {sc₂ : List ℕ} → r ≡ Refused k → sc₂ ≡ zeroed_from (9 * mark) sc₁ →
-        Whnf (words depth steps) (call.refused k 0) (record { mark = mark; scratch = sc₂; context = cs })
+    pub to_refusal : {k : Refusal} {sc₂ : List ℕ} → r ≡ Err k → sc₂ ≡ zeroed_from (9 * mark) sc₁ →
+        Whnf (words depth steps) (call.refused (number_of k) 0) (record { mark = mark; scratch = sc₂; context = cs })
     to_refusal is zeros = given_back (refused l ds rs cs sc mark p nesting g accepted_given by.holders by.rows (ran_as is ran) zeros)

@@ -1,3 +1,2 @@
-mod Zeros
 mod Ending
 mod Verdicts

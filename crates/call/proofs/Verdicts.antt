@@ -1,24 +1,21 @@
 -- A verdict known by its variant. Assumes nothing.
-use Prim.Native.Nat.{ℕ}
-use mathlib.Core.Path.{◌≡◌, refl, subst}
+use mathlib.Core.Path.{refl}
+use Rattle.std.specs.Prelude.{Ok, Err}
 use Rattle.rules.specs.Accepted.{Lent, Accepted, NotAccepted}
 use Rattle.rules.specs.Call as call
 use Rattle.rules.specs.Call.{Whnf, not_accepted}
-use Rattle.tables.specs.declared.accept.Verdict.{Verdict}
-use Rattle.tables.specs.declared.accept.Verdict.TheVariants as verdict
+use Rattle.rows.specs.Refusals.{number_of}
+use Rattle.rows.specs.declared.refusals.Refused.{Refused}
 use Rattle.tables.specs.Verdicts.{Accepts, accepted, refused, env_in, store_in}
 
 module _ {w : Lent} where
-  is_accepted : Accepts w verdict.Accepted → Accepted w (env_in w) (store_in w)
-  is_accepted (accepted a) = a
+  pub verdict_accepted : Accepts w (Ok tt) → Accepted w (env_in w) (store_in w)
+  verdict_accepted (accepted a) = a
 
-  is_refused : {number place : ℕ} → Accepts w (verdict.Refused number place) → NotAccepted w number place
+  is_refused : {r : Refused} → Accepts w (Err r) → NotAccepted w (number_of r.refusal) r.place
   is_refused (refused a) = a
 
-  pub verdict_accepted : {v : Verdict} → Accepts w v → v ≡ verdict.Accepted → Accepted w (env_in w) (store_in w)
-  verdict_accepted k is = is_accepted (subst (Accepts w) is k)
-
   -- refusals 1 to 3 write nothing
-  pub verdict_refused : {v : Verdict} {number place : ℕ} → Accepts w v → v ≡ verdict.Refused number place →
-      Whnf w (call.refused number place) (record { mark = w.mark; scratch = w.scratch; context = w.context })
-  verdict_refused k is = not_accepted (is_refused (subst (Accepts w) is k)) (record { mark = refl; scratch = refl; context = refl })
+  pub verdict_refused : {r : Refused} → Accepts w (Err r) →
+      Whnf w (call.refused (number_of r.refusal) r.place) (record { mark = w.mark; scratch = w.scratch; context = w.context })
+  verdict_refused k = not_accepted (is_refused k) (record { mark = refl; scratch = refl; context = refl })

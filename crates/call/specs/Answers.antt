@@ -1,39 +1,39 @@
--- The exported call's answer in the rules' words: the document's number and values for each case of the enum.
+-- The exported call's answer in the rules' words: the document's number and values for each case.
 -- Assumes nothing: these are definitions.
-use Rattle.std.specs.Prelude.{ℕ, ◌-◌, ◌/◌, ◌≡◌, List, ◌++◌, length, take, replicate}
+use Rattle.std.specs.Prelude.{ℕ, ◌-◌, ◌/◌, ◌≡◌, List, ◌++◌, length, take, replicate, Result, Ok, Err}
 use Rattle.rules.specs.Call as rules
 use Rattle.rules.specs.Accepted.{Accepted}
-use Rattle.rows.specs.declared.Ptr.{Ptr}
+use Rattle.rows.specs.Refusals.{number_of}
 use Rattle.rows.specs.Words.{ptr_of}
-use Rattle.tables.specs.Verdicts.{lent_of, env_in, store_in}
+use Rattle.rows.specs.declared.refusals.Refused.{Refused}
+use Rattle.tables.specs.Verdicts.{lent_by, env_in, store_in}
+use Rattle.tables.specs.declared.lent.Asked.{Asked}
+use Rattle.tables.specs.declared.lent.Lent.{Lent}
 use Rattle.tables.specs.Read.{HoldersOf}
 use Rattle.state.specs.declared.Given.{Given}
 use Rattle.call.specs.declared.Answered.{Answered}
-use Rattle.call.specs.declared.Answered.TheVariants.{Term, Refused}
 
 -- "a term with its steps and rows, or one numbered refusal with its place"
-abbrev pub answer_as : Answered → rules.Answer
-answer_as (Term p steps rows mark) = rules.term (ptr_of p) steps rows
-answer_as (Refused number place) = rules.refused number place
+abbrev pub answer_as : Result Answered Refused → rules.Answer
+answer_as (Ok a) = rules.term (ptr_of a.term) a.steps a.rows
+answer_as (Err k) = rules.refused (number_of k.refusal) k.place
 
 -- on a term the mark moves on; after a refusal it is the old one
-abbrev pub mark_as : Answered → ℕ → ℕ
-mark_as (Term p steps rows after) mark = after
-mark_as (Refused number place) mark = mark
+abbrev pub mark_as : Result Answered Refused → ℕ → ℕ
+mark_as (Ok a) mark = a.mark
+mark_as (Err k) mark = mark
 
-abbrev pub left_as : Answered → ℕ → List ℕ → List ℕ → rules.Left
+abbrev pub left_as : Result Answered Refused → ℕ → List ℕ → List ℕ → rules.Left
 left_as r mark scratch context = record { mark = mark_as r mark; scratch = scratch; context = context }
 
--- THE CONTRACT: the rules' own statement of the call, over the words and the numbers in the order of the call's arguments; then the answer, and the
--- scratch and the context after the call
-abbrev pub Answers : (library declarations rules context : List ℕ) (depth : ℕ) (scratch : List ℕ) (mark : ℕ) → Ptr → (steps nesting : ℕ) → Answered → List ℕ → List ℕ → Type 0
-Answers l ds rs cs depth sc mark p steps nesting r sc' cs' = rules.Whnf (lent_of l ds rs cs depth sc mark p steps nesting) (answer_as r) (left_as r mark sc' cs')
+-- THE CONTRACT: the rules' own statement of the call, over what is lent, the scratch and what is asked; then the answer, and the scratch and the
+-- context after the call
+abbrev pub Answers : Lent → List ℕ → Asked → Result Answered Refused → List ℕ → List ℕ → Type 0
+Answers w sc asked r sc' cs' = rules.Whnf (lent_by w sc asked) (answer_as r) (left_as r asked.mark sc' cs')
 
 -- accepted as the environment and the store that the words stand for
-abbrev pub AcceptedAs : (library declarations rules context : List ℕ) (depth : ℕ) (scratch : List ℕ) (mark : ℕ) → Ptr → (steps nesting : ℕ) → Type 0
-AcceptedAs l ds rs cs depth sc mark p steps nesting =
-    Accepted (lent_of l ds rs cs depth sc mark p steps nesting) (env_in (lent_of l ds rs cs depth sc mark p steps nesting))
-    (store_in (lent_of l ds rs cs depth sc mark p steps nesting))
+abbrev pub AcceptedAs : Lent → List ℕ → Asked → Type 0
+AcceptedAs w sc asked = Accepted (lent_by w sc asked) (env_in (lent_by w sc asked)) (store_in (lent_by w sc asked))
 
 -- words from a place to the end are 0
 abbrev pub zeroed_from : ℕ → List ℕ → List ℕ

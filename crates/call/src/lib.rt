@@ -7,16 +7,18 @@ ghost use Rattle.call.specs.Answers.{Answers, AcceptedAs, zeroed_from, GivenBy};
 
 use reduce::whnf as reduce_whnf;
 use rows::Ptr;
-use state::{Given, Meter, Reduced};
-use tables::accept::{Verdict, accept};
-use tables::role_holders;
+use rows::refusals::Refused;
+use state::{Given, Meter};
+use tables::accept::accept;
+use tables::{Asked, Lent, role_holders};
 
-#[derive(Clone, Copy)]
-pub enum Answered {
-    // the term, steps, rows, and the mark after them
-    Term(Ptr, u32, u32, u32),
-    // number, place
-    Refused(u32, u32),
+// The term, its steps and rows, and the mark after them.
+#[derive(Clone, Copy, Debug, PartialEq, Eq)]
+pub struct Answered {
+    pub term: Ptr,
+    pub steps: u32,
+    pub rows: u32,
+    pub mark: u32,
 }
 
 // Words from `from` to the end are 0 afterwards.
@@ -24,112 +26,48 @@ fn zero_from(scratch: &mut [u32], from: usize)
     requires { from ≤ length scratch.old }
     ensures { scratch.new ≡ zeroed_from from scratch.old }
 {
-    let mut i = from;
-    while i < scratch.len() {
-        scratch[i] = 0;
-        i += 1;
-    }
+    scratch[from..].fill(0);
 }
 
-// What stays the same in a call, read once.
-fn given(library: &[u32], declarations: &[u32], depth: u32, steps: u32) -> Given
-    requires { (length library.now ≤ 9 * most_rows) × (length declarations.now ≤ 16 * most_declarations) }
-    ensures { GivenBy library.now declarations.now depth steps result }
+// What stays the same in a call, read once. `as` narrows what the clause shows to fit.
+fn given(lent: Lent<'_>, asked: Asked) -> Given
+    requires { (length lent.library.now ≤ 9 * most_rows) × (length lent.declarations.now ≤ 16 * most_declarations) }
+    ensures { GivenBy lent.entry.library.now lent.entry.declarations.now asked.depth asked.steps result }
 {
-    let held = role_holders(declarations);
-    let holders = held.of;
     Given {
-        nlib: (library.len() / 9) as u32,
-        depth,
-        steps,
-        holders,
+        nlib: (lent.library.len() / 9) as u32,
+        depth: asked.depth,
+        steps: asked.steps,
+        holders: role_holders(lent.declarations),
     }
 }
 
 // The reduction of accepted input.
-fn reduce(
-    library: &[u32],
-    declarations: &[u32],
-    rules: &[u32],
-    context: &[u32],
-    depth: u32,
-    scratch: &mut [u32],
-    mark: u32,
-    term: Ptr,
-    steps: u32,
-    nesting: u32,
-) -> Answered
-    requires { AcceptedAs library.now declarations.now rules.now context.now depth scratch.old mark term steps nesting }
-    ensures { Answers library.now declarations.now rules.now context.now depth
-        scratch.old mark term steps nesting result scratch.new context.now }
+fn reduce(lent: Lent<'_>, scratch: &mut [u32], asked: Asked) -> Result<Answered, Refused>
+    requires { AcceptedAs lent scratch.old asked }
+    ensures { Answers lent.entry scratch.old asked result scratch.new lent.entry.context.now }
 {
-    let g = given(library, declarations, depth, steps);
+    let g = given(lent, asked);
+    let mark = asked.mark;
     let m = Meter { mark, steps: 0 };
-    match reduce_whnf(
-        library,
-        declarations,
-        rules,
-        context,
-        scratch,
-        g,
-        m,
-        term,
-        nesting,
-    ) {
-        Reduced::To(t, m1) => {
-            return Answered::Term(t, m1.steps, m1.mark - mark, m1.mark);
-        }
-        Reduced::Refused(k) => {
-            zero_from(scratch, 9 * (mark as usize));
-            return Answered::Refused(k, 0);
+    match reduce_whnf(lent, scratch, g, m, asked.term, asked.nesting) {
+        Ok((term, after)) => Ok(Answered {
+            term,
+            steps: after.steps,
+            rows: after.mark - mark,
+            mark: after.mark,
+        }),
+        Err(refusal) => {
+            zero_from(scratch, 9 * mark as usize);
+            Err(refusal.at(0))
         }
     }
 }
 
 // Any library, context, term and budgets get a term or one numbered refusal.
-pub fn whnf(
-    library: &[u32],
-    declarations: &[u32],
-    rules: &[u32],
-    context: &[u32],
-    depth: u32,
-    scratch: &mut [u32],
-    mark: u32,
-    term: Ptr,
-    steps: u32,
-    nesting: u32,
-) -> Answered
-    ensures { Answers library.now declarations.now rules.now context.now depth
-        scratch.old mark term steps nesting result scratch.new context.now }
+pub fn whnf(lent: Lent<'_>, scratch: &mut [u32], asked: Asked) -> Result<Answered, Refused>
+    ensures { Answers lent.entry scratch.old asked result scratch.new lent.entry.context.now }
 {
-    match accept(
-        library,
-        declarations,
-        rules,
-        context,
-        depth,
-        &scratch[..],
-        mark,
-        term,
-        steps,
-        nesting,
-    ) {
-        Verdict::Refused(number, place) => {
-            return Answered::Refused(number, place);
-        }
-        Verdict::Accepted => {
-            return reduce(
-                library,
-                declarations,
-                rules,
-                context,
-                depth,
-                scratch,
-                mark,
-                term,
-                steps,
-                nesting,
-            );
-        }
-    }
+    accept(lent, scratch, asked)?;
+    reduce(lent, scratch, asked)
 }

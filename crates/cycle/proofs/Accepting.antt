@@ -13,7 +13,7 @@ use Rattle.rows.specs.Words.{Held}
 use Rattle.replace.proofs.Results.{checked_sound}
 use Rattle.tables.specs.Read.{HoldersOf}
 use Rattle.tables.specs.Verdicts.{lent_of, env_in, store_in}
-use Rattle.tables.proofs.Given.{context_there, rules_there, role_given}
+use Rattle.tables.proofs.Given.{context_there, rules_there}
 use Rattle.state.specs.declared.Given.{Given}
 use Rattle.state.specs.declared.Meter.{Meter}
 use Rattle.cycle.specs.Cycle.{Tabled, Stand, Asked}
@@ -25,7 +25,6 @@ module _ (l ds rs cs sc : List ℕ) (mark : ℕ) (p : Ptr) (nesting : ℕ) (g : 
   pub accepted_tabled : Accepted lent (env_in lent) (store_in lent) → HoldersOf ds g.holders → Tabled ds rs cs g
   accepted_tabled a h = record {
     rules = λ d there k. rules_there a d there k;
-    roles = λ d there. role_given a d there;
     records = context_there a;
     holders = h;
   }

@@ -19,13 +19,16 @@ use Rattle.rows.specs.Words.{ptr_of, store_of}
 use Rattle.tables.specs.Env.{env_of}
 use Rattle.state.specs.declared.Given.{Given}
 use Rattle.state.specs.declared.Meter.{Meter}
-use Rattle.state.specs.declared.Answer.{Answer}
-use Rattle.state.specs.declared.Answer.TheVariants.{Term, Final, Refused}
+use Rattle.state.specs.State.{Answer}
 use Rattle.state.specs.State.{tally_of, limits_in, Left}
 use Rattle.cycle.specs.Cycle.{Stand, Counted}
 use Rattle.cycle.specs.Course.{step_missed, step_fired, step_stopped}
 use Rattle.cycle.proofs.Standing.{left_on, left_passed, limits_on, counted_on, stand_after_miss, after_miss}
 use Rattle.cycle.proofs.WaysOut.{left_as}
+use Rattle.std.specs.Prelude.{Err, Ok}
+use Rattle.state.specs.declared.Tried.TheVariants.{Term, Final}
+use Rattle.rows.specs.Refusals.{number_of}
+use Rattle.rows.specs.declared.refusals.Refusal.{Refusal}
 
 -- a try over the words' store, in any environment
 module _ (e : Env) (l : List ℕ) (g : Given) (n : ℕ) (sc : List ℕ) (m : Meter) where
@@ -44,23 +47,23 @@ module _ (e : Env) (l : List ℕ) (g : Given) (n : ℕ) (sc : List ℕ) (m : Met
   else_is = ap (step_of (limits_in g sc)) (sym (try_else (limits_in g sc) _ y z (tally_of l sc m)))
 
   -- the first fires, and is the answer
-  pub else_fires : {p : Ptr} {m₁ : Meter} {sc₁ : List ℕ} → Left l sc m (Term p m₁) sc₁ (tried e l g n sc m y) → Left l sc m (Term p m₁) sc₁ (tried e l g n sc m (y or_else z))
+  pub else_fires : {p : Ptr} {m₁ : Meter} {sc₁ : List ℕ} → Left l sc m (Ok (Term p m₁)) sc₁ (tried e l g n sc m y) → Left l sc m (Ok (Term p m₁)) sc₁ (tried e l g n sc m (y or_else z))
   else_fires k =
       let f = step_fired (limits_in g sc) (answer_to e l g n sc m y) (sym k.says) in
       left_as (ap (step_of (limits_in g sc)) f.answer ∙ sym (ap then_z f.answer) ∙ else_is) k
 
   -- the first is refused, and is the answer
-  pub else_stops : {k : ℕ} {sc₁ : List ℕ} → Left l sc m (Refused k) sc₁ (tried e l g n sc m y) → Left l sc m (Refused k) sc₁ (tried e l g n sc m (y or_else z))
+  pub else_stops : {k : Refusal} {sc₁ : List ℕ} → Left l sc m (Err k) sc₁ (tried e l g n sc m y) → Left l sc m (Err k) sc₁ (tried e l g n sc m (y or_else z))
   else_stops {k} h = left_as (sym h.says ∙ sym (on (answer_to e l g n sc m y) (sym h.says)) ∙ else_is) h
     where
-      on : (a : Ans) → step_of (limits_in g sc) a ≡ stopped k → then_z a ≡ stopped k
+      on : (a : Ans) → step_of (limits_in g sc) a ≡ stopped (number_of k) → then_z a ≡ stopped (number_of k)
       on (missed m) q = absurd (step_stopped q)
       on (firing m r xs) q = q
       on (refuse j) q = q
       on gone q = q
 
   -- the first misses, and the second answers in the rows that it left
-  pub else_passes : {m₁ : Meter} {sc₁ sc₂ : List ℕ} {b : Answer} → Left l sc m (Final m₁) sc₁ (tried e l g n sc m y) →
+  pub else_passes : {m₁ : Meter} {sc₁ sc₂ : List ℕ} {b : Answer} → Left l sc m (Ok (Final m₁)) sc₁ (tried e l g n sc m y) →
       Left l sc₁ m₁ b sc₂ (tried e l g n sc₁ m₁ z) → Left l sc m b sc₂ (tried e l g n sc m (y or_else z))
   else_passes {m₁} {sc₁} h k =
       left_as
@@ -72,7 +75,7 @@ module _ (e : Env) (l : List ℕ) (g : Given) (n : ℕ) (sc : List ℕ) (m : Met
 -- AFTER A MISS: t has the arguments that it had, so the next rule is asked of the same spine
 module _ {l ds rs cs sc : List ℕ} {g : Given} {m : Meter} {t : Ptr} {count : ℕ} (c : Counted l ds rs cs sc g m t count) (n : ℕ) {y : Try}
     (safe : Safe (decl_count (env_of ds rs cs g.depth)) (depth_of (env_of ds rs cs g.depth)) (store_of l sc m.mark) y) {sc₁ : List ℕ} {m₁ : Meter}
-    (k : Left l sc m (Final m₁) sc₁ (tried (env_of ds rs cs g.depth) l g n sc m y)) where
+    (k : Left l sc m (Ok (Final m₁)) sc₁ (tried (env_of ds rs cs g.depth) l g n sc m y)) where
   abbrev stand : Stand l ds rs cs sc g m
   stand = c.asked.stand
 

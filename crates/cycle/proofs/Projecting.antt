@@ -19,25 +19,26 @@ use Rattle.rows.specs.Words.{ptr_of, store_of}
 use Rattle.tables.specs.Env.{env_of}
 use Rattle.state.specs.declared.Given.{Given}
 use Rattle.state.specs.declared.Meter.{Meter}
-use Rattle.state.specs.declared.Answer.{Answer}
-use Rattle.state.specs.declared.Answer.TheVariants.{Final, Refused}
-use Rattle.state.specs.declared.Reduced.TheVariants as reduced
+use Rattle.state.specs.State.{Answer}
 use Rattle.state.specs.State.{tally_of, limits_in, Left}
 use Rattle.cycle.specs.Cycle.{Counted, Ran, res_by}
 use Rattle.cycle.specs.Members.{projected}
 use Rattle.cycle.proofs.WaysOut.{refused_left, head_row, side_ended, same_arguments, major_arguments, missed_after, fired_after}
+use Rattle.std.specs.Prelude.{Err, Ok}
+use Rattle.state.specs.declared.Tried.TheVariants.{Final}
+use Rattle.rows.specs.declared.refusals.Refusal.{Refusal}
 
 module _ {l ds rs cs sc : List ℕ} {g : Given} {m : Meter} {t : Ptr} {count : ℕ} (c : Counted l ds rs cs sc g m t count) (n index : ℕ)
     {x : Ptr} (i : InScope (store_of l sc m.mark) g.depth (ptr_of x)) where
-  pub projection_stops : {sc₁ : List ℕ} {k : ℕ} → Ran l sc m (reduced.Refused k) sc₁ (res_by l ds rs cs sc g m n (ptr_of x)) →
-      Left l sc m (Refused k) sc₁ (projected l ds rs cs sc g m t n x index)
+  pub projection_stops : {sc₁ : List ℕ} {k : Refusal} → Ran l sc m (Err k) sc₁ (res_by l ds rs cs sc g m n (ptr_of x)) →
+      Left l sc m (Err k) sc₁ (projected l ds rs cs sc g m t n x index)
   projection_stops r = refused_left r (sym (ap (step_of (limits_in g sc)) (projection_refused _ _ _ index _ (sym r.says))))
 
-  module _ {sc₁ : List ℕ} {q : Ptr} {m₁ : Meter} (r : Ran l sc m (reduced.To q m₁) sc₁ (res_by l ds rs cs sc g m n (ptr_of x))) where
+  module _ {sc₁ : List ℕ} {q : Ptr} {m₁ : Meter} (r : Ran l sc m (Ok (q, m₁)) sc₁ (res_by l ds rs cs sc g m n (ptr_of x))) where
     abbrev found : Option rules.Ptr
     found = field_at (env_of ds rs cs g.depth) (head_row (store_of l sc₁ m₁.mark) (ptr_of q)) (args_of (store_of l sc₁ m₁.mark) (ptr_of q)) index
 
-    pub projection_ends : none ≡ found → Left l sc m (Final m₁) sc₁ (projected l ds rs cs sc g m t n x index)
+    pub projection_ends : none ≡ found → Left l sc m (Ok (Final m₁)) sc₁ (projected l ds rs cs sc g m t n x index)
     projection_ends none_there = missed_after c n i r (projection_missed _ _ _ index _ (side_ended c n i r) (sym none_there))
 
     pub projection_gives : {a : Ptr} {o : Answer} {sc₂ : List ℕ} → some (ptr_of a) ≡ found →

@@ -24,15 +24,16 @@ use Rattle.rows.specs.Words.{ptr_of, store_of}
 use Rattle.tables.specs.Env.{env_of}
 use Rattle.state.specs.declared.Given.{Given}
 use Rattle.state.specs.declared.Meter.{Meter}
-use Rattle.state.specs.declared.Answer.{Answer}
-use Rattle.state.specs.declared.Answer.TheVariants.{Final, Refused}
-use Rattle.state.specs.declared.Reduced.TheVariants as reduced
+use Rattle.state.specs.State.{Answer}
 use Rattle.state.specs.State.{tally_of, limits_in, Left}
 use Rattle.cycle.specs.Cycle.{Counted, Ran, res_by}
 use Rattle.cycle.specs.Members.{quotient}
 use Rattle.cycle.proofs.Standing.{to_depth, nothing_passed}
 use Rattle.cycle.proofs.WaysOut.{refused_left, final_left, head_row, grown_store, side_ended, same_arguments}
 use Rattle.cycle.proofs.WaysOut.{missed_after, fired_after}
+use Rattle.std.specs.Prelude.{Err, Ok}
+use Rattle.state.specs.declared.Tried.TheVariants.{Final}
+use Rattle.rows.specs.declared.refusals.Refusal.{Refusal}
 
 -- THE POSITION of the major, by the role's code
 op_codes : (o : Op) → 9 ≤ role_code (arith o)
@@ -107,24 +108,24 @@ module _ {l ds rs cs sc : List ℕ} {g : Given} {m : Meter} {t : Ptr} {count : �
   abbrev xs : List rules.Ptr
   xs = args_of (store_of l sc m.mark) (ptr_of t)
 
-  pub quot_misses : quot_parts D xs ≡ none → Left l sc m (Final m) sc (quotient l ds rs cs sc g m t n d)
+  pub quot_misses : quot_parts D xs ≡ none → Left l sc m (Ok (Final m)) sc (quotient l ds rs cs sc g m t n d)
   quot_misses q =
       final_left (nothing_passed sc m c.asked.stand.held.room) (sym (ap (step_of (limits_in g sc)) (quot_none (env_of ds rs cs g.depth) _ _ (tally_of l sc m) D xs q)))
 
   module _ {f p : Ptr} (from : ℕ) (parts : quot_parts D xs ≡ some (quot_parts_of (ptr_of f) (ptr_of p) (drop from xs)))
       (i : InScope (store_of l sc m.mark) g.depth (ptr_of p)) where
-    pub quot_stops : {sc₁ : List ℕ} {k : ℕ} → Ran l sc m (reduced.Refused k) sc₁ (res_by l ds rs cs sc g m n (ptr_of p)) →
-        Left l sc m (Refused k) sc₁ (quotient l ds rs cs sc g m t n d)
+    pub quot_stops : {sc₁ : List ℕ} {k : Refusal} → Ran l sc m (Err k) sc₁ (res_by l ds rs cs sc g m n (ptr_of p)) →
+        Left l sc m (Err k) sc₁ (quotient l ds rs cs sc g m t n d)
     quot_stops r = refused_left r (sym (ap (step_of (limits_in g sc)) (quot_refused (env_of ds rs cs g.depth) _ _ (tally_of l sc m) D xs parts (sym r.says))))
 
-    module _ {sc₁ : List ℕ} {q : Ptr} {m₁ : Meter} (r : Ran l sc m (reduced.To q m₁) sc₁ (res_by l ds rs cs sc g m n (ptr_of p))) where
+    module _ {sc₁ : List ℕ} {q : Ptr} {m₁ : Meter} (r : Ran l sc m (Ok (q, m₁)) sc₁ (res_by l ds rs cs sc g m n (ptr_of p))) where
       abbrev s₁ : rules.Store
       s₁ = store_of l sc₁ m₁.mark
 
       abbrev element : Option rules.Ptr
       element = quot_made (env_of ds rs cs g.depth) (head_row s₁ (ptr_of q)) (args_of s₁ (ptr_of q))
 
-      pub quot_ends : none ≡ element → Left l sc m (Final m₁) sc₁ (quotient l ds rs cs sc g m t n d)
+      pub quot_ends : none ≡ element → Left l sc m (Ok (Final m₁)) sc₁ (quotient l ds rs cs sc g m t n d)
       quot_ends none_there = missed_after c n i r (quot_missed (env_of ds rs cs g.depth) _ _ D xs parts (side_ended c n i r) (sym none_there))
 
       pub quot_gives : {a : Ptr} {o : Answer} {sc₂ : List ℕ} → InScope (store_of l sc m.mark) g.depth (ptr_of f) → some (ptr_of a) ≡ element →

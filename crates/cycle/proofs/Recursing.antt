@@ -29,12 +29,10 @@ use Rattle.ways.specs.Ways.{rec_none, rec_refused, rec_no_constructor, rec_rows_
 use Rattle.rows.specs.declared.Ptr.{Ptr}
 use Rattle.rows.specs.Words.{ptr_of, store_of}
 use Rattle.tables.specs.Env.{env_of}
-use Rattle.spine.specs.declared.Spined.{Spined}
+use Rattle.majors.specs.declared.Made.{Made}
 use Rattle.state.specs.declared.Given.{Given}
 use Rattle.state.specs.declared.Meter.{Meter}
-use Rattle.state.specs.declared.Answer.{Answer}
-use Rattle.state.specs.declared.Answer.TheVariants.{Final, Refused}
-use Rattle.state.specs.declared.Reduced.TheVariants as reduced
+use Rattle.state.specs.State.{Answer}
 use Rattle.state.specs.State.{tally_of, limits_in, Left}
 use Rattle.majors.specs.Majors.{Agrees, major_of, NotMade, RefusedMade, MadeAs}
 use Rattle.majors.proofs.ForCallers.{holders_agree}
@@ -43,6 +41,10 @@ use Rattle.cycle.specs.Members.{recursed}
 use Rattle.cycle.specs.Course.{parts_in, fires_in}
 use Rattle.cycle.proofs.Standing.{to_depth, stand_within, stand_on, counted_on, nothing_passed, ran_passed, limits_on, left_on, passed_on}
 use Rattle.cycle.proofs.WaysOut.{refused_left, final_left, left_as, q_asked, t_counted, grown_store, major_arguments, side_ended, missed_after, through}
+use Rattle.std.specs.Prelude.{Err, Ok}
+use Rattle.rows.specs.Refusals.{number_of}
+use Rattle.state.specs.declared.Tried.TheVariants.{Final}
+use Rattle.rows.specs.declared.refusals.Refusal.{Refusal}
 
 module _ {l ds rs cs sc : List ℕ} {g : Given} {m : Meter} {t : Ptr} {count : ℕ} (c : Counted l ds rs cs sc g m t count) (n d levels : ℕ) where
   abbrev e : Env
@@ -61,35 +63,35 @@ module _ {l ds rs cs sc : List ℕ} {g : Given} {m : Meter} {t : Ptr} {count : �
   pub holders_known : Agrees e g.holders
   holders_known = holders_agree ds rs cs g.holders g.depth c.asked.stand.tabled.holders
 
-  pub rec_misses : rec_parts D levels xs ≡ none → Left l sc m (Final m) sc (recursed l ds rs cs sc g m t n d levels)
+  pub rec_misses : rec_parts D levels xs ≡ none → Left l sc m (Ok (Final m)) sc (recursed l ds rs cs sc g m t n d levels)
   rec_misses q =
       final_left (nothing_passed sc m c.asked.stand.held.room) (sym (ap (step_of (limits_in g sc)) (rec_none e _ _ (tally_of l sc m) D levels xs q)))
 
   module _ {o : Recursor} {p : Ptr} (parts : rec_parts D levels xs ≡ some (rec_parts_of o (ptr_of p)))
       (i : InScope (store_of l sc m.mark) g.depth (ptr_of p)) where
-    pub rec_stops : {sc₁ : List ℕ} {k : ℕ} → Ran l sc m (reduced.Refused k) sc₁ (res_by l ds rs cs sc g m n (ptr_of p)) →
-        Left l sc m (Refused k) sc₁ (recursed l ds rs cs sc g m t n d levels)
+    pub rec_stops : {sc₁ : List ℕ} {k : Refusal} → Ran l sc m (Err k) sc₁ (res_by l ds rs cs sc g m n (ptr_of p)) →
+        Left l sc m (Err k) sc₁ (recursed l ds rs cs sc g m t n d levels)
     rec_stops r = refused_left r (sym (ap (step_of (limits_in g sc)) (rec_refused e _ _ (tally_of l sc m) D levels xs parts (sym r.says))))
 
-    module _ {sc₁ : List ℕ} {q : Ptr} {m₁ : Meter} (r : Ran l sc m (reduced.To q m₁) sc₁ (res_by l ds rs cs sc g m n (ptr_of p))) where
+    module _ {sc₁ : List ℕ} {q : Ptr} {m₁ : Meter} (r : Ran l sc m (Ok (q, m₁)) sc₁ (res_by l ds rs cs sc g m n (ptr_of p))) where
       abbrev s₁ : Store
       s₁ = store_of l sc₁ m₁.mark
 
       -- nothing was written for it, and nothing is left of the words but what the side reduction left
       pub no_constructor : {m₂ : Meter} {sc₂ : List ℕ} → NotMade sc₁ m₁ (major_of s₁ (ptr_of q) e) m₂ sc₂ →
-          Left l sc m (Final m₂) sc₂ (recursed l ds rs cs sc g m t n d levels)
+          Left l sc m (Ok (Final m₂)) sc₂ (recursed l ds rs cs sc g m t n d levels)
       no_constructor {m₂} {sc₂} k =
-          let here : Left l sc m (Final m₁) sc₁ (recursed l ds rs cs sc g m t n d levels) =
+          let here : Left l sc m (Ok (Final m₁)) sc₁ (recursed l ds rs cs sc g m t n d levels) =
           missed_after c n i r (rec_no_constructor e _ _ D levels xs parts (side_ended c n i r) k.is) in
-          subst (λ (w : List ℕ). Left l sc m (Final m₂) w (recursed l ds rs cs sc g m t n d levels)) (sym k.words)
-          (subst (λ (x : Meter). Left l sc m (Final x) sc₁ (recursed l ds rs cs sc g m t n d levels)) (sym k.meter) here)
+          subst (λ (w : List ℕ). Left l sc m (Ok (Final m₂)) w (recursed l ds rs cs sc g m t n d levels)) (sym k.words)
+          (subst (λ (x : Meter). Left l sc m (Ok (Final x)) sc₁ (recursed l ds rs cs sc g m t n d levels)) (sym k.meter) here)
 
       -- rows are charged under the limits of the start
       charged_as : {x : Option ℕ} (ws : List rules.Row) → charge (limits_in g sc₁) s₁ (grow s₁ ws) ≡ x → charge (limits_in g sc) s₁ (grow s₁ ws) ≡ x
       charged_as ws q = ap (λ (z : Limits). charge z s₁ (grow s₁ ws)) (sym (limits_on g (ran_passed r refl))) ∙ q
 
-      pub rows_stop : {k : ℕ} {sc₂ : List ℕ} → RefusedMade (limits_in g sc₁) s₁ (major_of s₁ (ptr_of q) e) k →
-          take (9 * m₁.mark) sc₂ ≡ take (9 * m₁.mark) sc₁ → length sc₂ ≡ length sc₁ → Left l sc m (Refused k) sc₂ (recursed l ds rs cs sc g m t n d levels)
+      pub rows_stop : {k : Refusal} {sc₂ : List ℕ} → RefusedMade (limits_in g sc₁) s₁ (major_of s₁ (ptr_of q) e) (number_of k) →
+          take (9 * m₁.mark) sc₂ ≡ take (9 * m₁.mark) sc₁ → length sc₂ ≡ length sc₁ → Left l sc m (Err k) sc₂ (recursed l ds rs cs sc g m t n d levels)
       rows_stop {k} h kept same =
           through c n i r answer
           (record {
@@ -100,14 +102,14 @@ module _ {l ds rs cs sc : List ℕ} {g : Given} {m : Meter} {t : Ptr} {count : �
           })
 
       -- ITS ROWS STAND, up to m₂
-      module _ {k : ℕ} {p₂ : Ptr} {sp : Spined} {m₂ : Meter} {sc₂ : List ℕ} (h : MadeAs l sc₁ g m₁ (major_of s₁ (ptr_of q) e) k p₂ sp m₂ sc₂) (past : Passed sc₁ m₁ sc₂ m₂) where
+      module _ {z : Made} {m₂ : Meter} {sc₂ : List ℕ} (h : MadeAs l sc₁ g m₁ (major_of s₁ (ptr_of q) e) z m₂ sc₂) (past : Passed sc₁ m₁ sc₂ m₂) where
         tally_is : tally_of l sc₂ m₂ ≡ tally m₁.steps (grow s₁ h.made.rows)
         tally_is = λ j. tally (h.steps j) (h.store j)
 
         through_both : Passed sc m sc₂ m₂
         through_both = passed_on (ran_passed r refl) past
 
-        pub rule_missing : by_rule o xs h.made ≡ none → Left l sc m (Final m₂) sc₂ (recursed l ds rs cs sc g m t n d levels)
+        pub rule_missing : by_rule o xs h.made ≡ none → Left l sc m (Ok (Final m₂)) sc₂ (recursed l ds rs cs sc g m t n d levels)
         rule_missing q =
             final_left through_both
             (ap final tally_is ∙ sym (ap (step_of (limits_in g sc)) (rec_missed e _ _ D levels xs parts (side_ended c n i r) h.is (charged_as h.made.rows h.charged) q)))

@@ -24,22 +24,22 @@ use Rattle.safety.specs.Leaves.{LeavesTerm, LeavesRows, side_leaves, miss_leaves
 use Rattle.ways.specs.Steps.{Step, step_of}
 use Rattle.ways.specs.Spines.{args_later}
 use Rattle.rows.specs.declared.Ptr.{Ptr}
-use Rattle.rows.specs.declared.Out.TheVariants.{Done}
 use Rattle.rows.specs.Words.{ptr_of, store_of}
 use Rattle.rows.specs.Writes.{Grown, Wrote}
+use Rattle.rows.proofs.RefusalNumbers.{same_mark}
 use Rattle.rows.proofs.Store.{held_length}
 use Rattle.rows.proofs.InTurn.{grown_on, done_held, done_are_rows}
 use Rattle.tables.specs.Records.{records_many}
 use Rattle.tables.specs.Env.{env_of, decl_of, entry_of}
 use Rattle.state.specs.declared.Given.{Given}
 use Rattle.state.specs.declared.Meter.{Meter}
-use Rattle.state.specs.declared.Answer.{Answer}
-use Rattle.state.specs.declared.Answer.TheVariants.{Term, Final}
-use Rattle.state.specs.declared.Reduced.{Reduced}
-use Rattle.state.specs.declared.Reduced.TheVariants as reduced
+use Rattle.state.specs.State.{Answer}
+use Rattle.state.specs.State.{Reduced}
 use Rattle.state.specs.State.{tally_of, limits_in, meter_of, Headed, Left}
 use Rattle.cycle.specs.Cycle.{Stand, Asked, Counted, Passed, Ran, res_by, meter_after}
 use Rattle.cycle.specs.Course.{step_missed, step_fired}
+use Rattle.std.specs.Prelude.{Ok}
+use Rattle.state.specs.declared.Tried.TheVariants.{Term, Final}
 
 -- THE ENVIRONMENT: as deep as the call says
 pub depth_is : (ds rs cs : List ℕ) (depth : ℕ) → depth_of (env_of ds rs cs depth) ≡ depth
@@ -92,12 +92,12 @@ limits_on g p = ap (λ (n : ℕ). record { steps = g.steps; rows = g.nlib + n / 
 
 -- a write with this answer, as the rows' laws take it
 as_wrote : (l : List ℕ) {sc sc₁ : List ℕ} {m m₁ : Meter} (q : Ptr) → Passed sc m sc₁ m₁ →
-    Wrote l sc m.mark (Done q m₁.mark) sc₁ (course.wrote (got (store_of l sc₁ m₁.mark) (ptr_of q)))
+    Wrote l sc m.mark (Ok (q, m₁.mark)) sc₁ (course.wrote (got (store_of l sc₁ m₁.mark) (ptr_of q)))
 as_wrote l {sc} {sc₁} {m} {m₁} q p = record {
   says = refl;
   kept = p.kept;
   same_length = p.same_length;
-  grown = λ q' m' e. subst (Grown sc m.mark sc₁) (let z : m₁.mark ≡ m' = cc in z) p.grown;
+  grown = λ q' m' e. subst (Grown sc m.mark sc₁) (same_mark e) p.grown;
 }
 
 -- WHAT STANDS
@@ -154,7 +154,7 @@ module _ {l ds rs cs sc : List ℕ} {g : Given} {m : Meter} (s : Stand l ds rs c
   }
 
   pub after_side : {sc₁ : List ℕ} {m₁ : Meter} {p q : Ptr} (n : ℕ) → InScope (store_of l sc m.mark) g.depth (ptr_of p) →
-      Ran l sc m (reduced.To q m₁) sc₁ (res_by l ds rs cs sc g m n (ptr_of p)) → Next sc₁ m₁ q
+      Ran l sc m (Ok (q, m₁)) sc₁ (res_by l ds rs cs sc g m n (ptr_of p)) → Next sc₁ m₁ q
   after_side n i r = next_of (ran_passed r refl) (side_leaves Here (limits_in g sc) n stand_within s.sane (to_depth i) (sym r.says))
 
   module _ (n : ℕ) {y : Try} (safe : Safe (decl_count Here) (depth_of Here) (store_of l sc m.mark) y) where
@@ -162,20 +162,20 @@ module _ {l ds rs cs sc : List ℕ} {g : Given} {m : Meter} (s : Stand l ds rs c
     answer = try (limits_in g sc) (side_at Here (limits_in g sc) n) y (tally_of l sc m)
 
     -- after no rule: the next is tried in the rows that are left
-    pub after_miss : {sc₁ : List ℕ} {m₁ : Meter} → Left l sc m (Final m₁) sc₁ (step_of (limits_in g sc) answer) →
+    pub after_miss : {sc₁ : List ℕ} {m₁ : Meter} → Left l sc m (Ok (Final m₁)) sc₁ (step_of (limits_in g sc) answer) →
         LeavesRows Here (limits_in g sc) (tally_of l sc m) (tally_of l sc₁ m₁)
     after_miss k = miss_leaves Here (limits_in g sc) n stand_within s.sane safe (step_missed (limits_in g sc) answer (sym k.says))
 
-    pub stand_after_miss : {sc₁ : List ℕ} {m₁ : Meter} → Left l sc m (Final m₁) sc₁ (step_of (limits_in g sc) answer) → Stand l ds rs cs sc₁ g m₁
+    pub stand_after_miss : {sc₁ : List ℕ} {m₁ : Meter} → Left l sc m (Ok (Final m₁)) sc₁ (step_of (limits_in g sc) answer) → Stand l ds rs cs sc₁ g m₁
     stand_after_miss k = let h = after_miss k in stand_on (left_passed k refl) h.sane h.within.steps
 
     -- after a firing: its term is asked for, and a step was taken
-    pub after_fire : {sc₁ : List ℕ} {m₁ : Meter} {q : Ptr} → Left l sc m (Term q m₁) sc₁ (step_of (limits_in g sc) answer) → Next sc₁ m₁ q
+    pub after_fire : {sc₁ : List ℕ} {m₁ : Meter} {q : Ptr} → Left l sc m (Ok (Term q m₁)) sc₁ (step_of (limits_in g sc) answer) → Next sc₁ m₁ q
     after_fire k =
         let f = step_fired (limits_in g sc) answer (sym k.says) in
         next_of (left_passed k refl) (fire_leaves Here (limits_in g sc) n stand_within s.sane safe f.answer f.paid)
 
-    pub step_taken : {sc₁ : List ℕ} {m₁ : Meter} {q : Ptr} → Left l sc m (Term q m₁) sc₁ (step_of (limits_in g sc) answer) → m.steps < m₁.steps
+    pub step_taken : {sc₁ : List ℕ} {m₁ : Meter} {q : Ptr} → Left l sc m (Ok (Term q m₁)) sc₁ (step_of (limits_in g sc) answer) → m.steps < m₁.steps
     step_taken k =
         let f = step_fired (limits_in g sc) answer (sym k.says) in
         fire_steps Here (limits_in g sc) n stand_within s.sane safe f.answer f.paid

@@ -1,71 +1,20 @@
--- The tests that come before a side reduction, from what the code reads: which operation and which operands, which recursor and which major.
+-- The tests that come before a side reduction, from what the code reads: which operands, which recursor and which major.
 -- Assumes nothing.
-use Prim.Native.Nat.{ℕ, ◌-◌, ◌≤◌, ◌<◌}
+use Prim.Native.Nat.{ℕ, ◌≤◌}
 use native.Mathlib.Omega as O
-use mathlib.Core.Path.{◌≡◌, refl, sym, ap, ◌∙◌}
+use mathlib.Core.Path.{◌≡◌, refl}
 use mathlib.Core.Bool.{Bool, true, false}
 use mathlib.Core.List.{List, [], ◌∷◌}
 use mathlib.Core.Option.{Option, none, some}
 use lib.Dec.{eqb}
-use lib.ListN.{length, get_or}
+use lib.ListN.{length}
 use borrow.Author.Tests.{eq-eqb, ne_eqb}
 use Rattle.rules.specs.Rows.{Ptr}
-use Rattle.rules.specs.Arithmetic.{Op, add, sub, mul, div, mod', beq, ble}
-use Rattle.rules.specs.Declarations.{Role, no_role, nat, zero', succ', true', false', quot_mk, quot_lift, quot_ind, arith, op_code, role_code, Recursor}
+use Rattle.rules.specs.Arithmetic.{Op}
+use Rattle.rules.specs.Declarations.{Recursor}
 use Rattle.rules.specs.Declarations.{Decl, Env, nth}
 use Rattle.rules.specs.HeadTests.{given, provided, recursor_of, major_position, rec_parts_of, rec_parts, operation_of, tried, operands_of, exactly_two, operands}
 use Rattle.safety.specs.Lists.{nth_inside}
-
--- THE OPERATION of a role, by its code
-operations : List Op
-operations = add ∷ sub ∷ mul ∷ div ∷ mod' ∷ beq ∷ ble ∷ []
-
-back : ℕ → Op
-unfolding operations
-back n = get_or operations (n - 9) add
-
-back_is : (o : Op) → back (op_code o) ≡ o
-unfolding back operations
-back_is add = refl
-back_is sub = refl
-back_is mul = refl
-back_is div = refl
-back_is mod' = refl
-back_is beq = refl
-back_is ble = refl
-
-op_low : (o : Op) → 9 ≤ op_code o
-op_low add = omega O.arith
-op_low sub = omega O.arith
-op_low mul = omega O.arith
-op_low div = omega O.arith
-op_low mod' = omega O.arith
-op_low beq = omega O.arith
-op_low ble = omega O.arith
-
-pub no_operation : (r : Role) → role_code r < 9 → operation_of r ≡ none
-no_operation no_role h = refl
-no_operation nat h = refl
-no_operation zero' h = refl
-no_operation succ' h = refl
-no_operation true' h = refl
-no_operation false' h = refl
-no_operation quot_mk h = refl
-no_operation quot_lift h = refl
-no_operation quot_ind h = refl
-no_operation (arith o) h = absurd (omega (O.arith, op_low o))
-
-pub the_operation : (o : Op) (r : Role) → role_code r ≡ op_code o → operation_of r ≡ some o
-the_operation o no_role q = absurd (omega (O.arith, op_low o))
-the_operation o nat q = absurd (omega (O.arith, op_low o))
-the_operation o zero' q = absurd (omega (O.arith, op_low o))
-the_operation o succ' q = absurd (omega (O.arith, op_low o))
-the_operation o true' q = absurd (omega (O.arith, op_low o))
-the_operation o false' q = absurd (omega (O.arith, op_low o))
-the_operation o quot_mk q = absurd (omega (O.arith, op_low o))
-the_operation o quot_lift q = absurd (omega (O.arith, op_low o))
-the_operation o quot_ind q = absurd (omega (O.arith, op_low o))
-the_operation o (arith p) q = ap some (sym (back_is p) ∙ ap back q ∙ back_is o)
 
 -- THE OPERANDS: exactly two
 module _ (e : Env) (D : Decl) (xs : List Ptr) where

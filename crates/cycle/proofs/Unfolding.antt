@@ -1,13 +1,12 @@
 -- Delta and a variable's context value: what the firing answers is what trying the rule comes to.
 -- Assumes what the member is given.
 use Prim.Native.Nat.{ℕ, suc, ◌/◌, ◌<◌}
-use mathlib.Core.Path.{◌≡◌, refl, sym, ap, ◌∙◌}
+use mathlib.Core.Path.{◌≡◌, refl, sym, ap, ap₂, ◌∙◌}
 use mathlib.Core.Bool.{Bool, true, false}
 use mathlib.Core.List.{List}
 use mathlib.Core.Option.{Option, none, some}
 use lib.Dec.{eqb}
 use lib.ListN.{length}
-use borrow.Author.Tests.{eqb-true, eqb-false}
 use Rattle.rules.specs.Rows as rules
 use Rattle.rules.specs.Rows.{Store, up}
 use Rattle.rules.specs.RowCheck.{InScope}
@@ -27,7 +26,7 @@ use Rattle.rows.specs.declared.Ptr.{Ptr}
 use Rattle.rows.specs.Words.{ite, ptr_of, store_of}
 use Rattle.tables.specs.Env.{env_of}
 use Rattle.tables.specs.Read.{decl_read}
-use Rattle.tables.specs.ReadLaws.{levels_is, valued_is, no_value}
+use Rattle.tables.specs.ReadLaws.{levels_is, value_is}
 use Rattle.state.specs.declared.Given.{Given}
 use Rattle.state.specs.declared.Meter.{Meter}
 use Rattle.state.specs.State.{tally_of, limits_in}
@@ -47,30 +46,16 @@ module _ {e : Env} (l : List ℕ) (g : Given) (n : ℕ) (sc : List ℕ) (m : Met
 
 -- DELTA, by the declaration's words
 module _ (ds rs cs : List ℕ) (depth d n : ℕ) (there : d < length ds / 16) where
-  provided_none : (b : Bool) → provided {A = rules.Ptr} b none ≡ none
-  provided_none true = refl
-  provided_none false = refl
-
-  provided_ite : (v : rules.Ptr) (b : Bool) → ite b (some v) none ≡ provided b (some v)
+  provided_ite : (v : Option rules.Ptr) (b : Bool) → ite b v none ≡ provided b v
   provided_ite v true = refl
   provided_ite v false = refl
 
-  -- the levels are as many, as the rules read them
-  abbrev same : Bool
-  same = eqb (decl_at (env_of ds rs cs depth).decls d).levels n
-
   pub unfolds_is : unfolds_to (decl_read (part 16 ds d)) n ≡ unfolds (decl_at (env_of ds rs cs depth).decls d) n
   unfolding unfolds
-  unfolds_is = on (eqb (decl_read (part 16 ds d)).valued 0) refl
-    where
-      on : (b : Bool) → eqb (decl_read (part 16 ds d)).valued 0 ≡ b →
-          ite b none (ite (eqb (decl_read (part 16 ds d)).levels n) (some (ptr_of (decl_read (part 16 ds d)).value)) none) ≡
-          provided same (decl_at (env_of ds rs cs depth).decls d).value
-      on true q = sym (ap (provided same) (no_value ds rs cs depth d there (eqb-true _ _ q)) ∙ provided_none same)
-      on false q =
-          provided_ite _ (eqb (decl_read (part 16 ds d)).levels n)
-          ∙ ap (λ (k : ℕ). provided (eqb k n) (some (ptr_of (decl_read (part 16 ds d)).value))) (sym (levels_is ds rs cs depth d there))
-          ∙ ap (provided same) (sym (valued_is ds rs cs depth d there (eqb-false _ _ q)))
+  unfolds_is =
+      provided_ite _ (eqb (decl_read (part 16 ds d)).levels n)
+      ∙ ap₂ (λ (k : ℕ) (v : Option rules.Ptr). provided (eqb k n) v)
+      (sym (levels_is ds rs cs depth d there)) (sym (value_is ds rs cs depth d there))
 
 module _ {l ds rs cs sc : List ℕ} {g : Given} {m : Meter} {t : Ptr} (a : Asked l ds rs cs sc g m t) (n : ℕ) where
   abbrev e : Env

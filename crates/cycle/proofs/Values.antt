@@ -2,7 +2,8 @@
 -- Assumes what the member is given.
 use Prim.Native.Nat.{ℕ, suc, ◌+◌, ◌-◌, ◌/◌, ◌<◌}
 use native.Mathlib.Omega.{arith}
-use mathlib.Core.Path.{◌≡◌}
+use mathlib.Core.Path.{◌≡◌, refl}
+use Rattle.std.specs.Prelude.{Option as Maybe, Some, None, IfSome}
 use mathlib.Core.List.{List, []}
 use mathlib.Core.Option.{some}
 use lib.ListN.{length}
@@ -32,10 +33,12 @@ module _ {l ds rs cs sc : List ℕ} {g : Given} {m : Meter} (s : Stand l ds rs c
   rows_in_use = held_length l sc m.mark g.nlib s.held
 
   -- a declaration's value
-  pub value_below : (d : ℕ) → d < length ds / 16 → ((decl_read (part 16 ds d)).valued ≡ 0 → ⊥) → (decl_read (part 16 ds d)).value.row < g.nlib + m.mark
-  value_below d there some_value =
-      let k = s.sane.value d (ptr_of (decl_read (part 16 ds d)).value) (valued_is ds rs cs g.depth d there some_value) in
-      omega (arith, k.there, rows_in_use)
+  pub value_below : (d : ℕ) → d < length ds / 16 → IfSome (decl_read (part 16 ds d)).value (λ v. v.row < g.nlib + m.mark)
+  value_below d there = on (decl_read (part 16 ds d)).value refl
+    where
+      on : (v : Maybe Ptr) → (decl_read (part 16 ds d)).value ≡ v → IfSome v (λ v. v.row < g.nlib + m.mark)
+      on None q = tt
+      on (Some v) q = let k = s.sane.value d (ptr_of v) (valued_is ds rs cs g.depth d there q) in omega (arith, k.there, rows_in_use)
 
   context_scope : (i : ℕ) (v : rules.Ptr) → value_of (env_of [] [] cs g.depth) i ≡ some v → InScope (store_of l sc m.mark) (depth_of (env_of ds rs cs g.depth) - suc i) v
   unfolding value_of

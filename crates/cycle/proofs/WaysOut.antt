@@ -24,23 +24,25 @@ use Rattle.rows.specs.Writes.{Grown}
 use Rattle.tables.specs.Env.{env_of}
 use Rattle.state.specs.declared.Given.{Given}
 use Rattle.state.specs.declared.Meter.{Meter}
-use Rattle.state.specs.declared.Answer.{Answer}
-use Rattle.state.specs.declared.Answer.TheVariants.{Final, Refused}
-use Rattle.state.specs.declared.Reduced.{Reduced}
-use Rattle.state.specs.declared.Reduced.TheVariants as reduced
+use Rattle.state.specs.State.{Answer}
+use Rattle.state.specs.State.{Reduced}
 use Rattle.state.specs.State.{tally_of, limits_in, Left}
 use Rattle.cycle.specs.Cycle.{Asked, Counted, Passed, Ran, res_as, res_by}
 use Rattle.cycle.specs.Course.{ended, parts_in, fires_in}
 use Rattle.cycle.proofs.Standing.{left_on, ran_passed, limits_on, counted_on, to_depth, Next, after_side}
+use Rattle.std.specs.Prelude.{Err, Ok}
+use Rattle.state.specs.declared.Tried.TheVariants.{Final}
+use Rattle.rows.specs.Refusals.{number_of}
+use Rattle.rows.specs.declared.refusals.Refusal.{Refusal}
 
 -- WHATEVER THE RULE IS
 
 -- a side reduction's refusal is the member's
-pub refused_left : {l sc sc₁ : List ℕ} {m : Meter} {k : ℕ} {res : Res} {step : Step} → Ran l sc m (reduced.Refused k) sc₁ res → stopped k ≡ step → Left l sc m (Refused k) sc₁ step
+pub refused_left : {l sc sc₁ : List ℕ} {m : Meter} {k : Refusal} {res : Res} {step : Step} → Ran l sc m (Err k) sc₁ res → stopped (number_of k) ≡ step → Left l sc m (Err k) sc₁ step
 refused_left r q = record { says = q; kept = r.kept; same_length = r.same_length; grown = λ m' z. absurd (none_some z) }
 
 -- no rule, in the rows that are left
-pub final_left : {l sc sc₁ : List ℕ} {m m₁ : Meter} {step : Step} → Passed sc m sc₁ m₁ → final (tally_of l sc₁ m₁) ≡ step → Left l sc m (Final m₁) sc₁ step
+pub final_left : {l sc sc₁ : List ℕ} {m m₁ : Meter} {step : Step} → Passed sc m sc₁ m₁ → final (tally_of l sc₁ m₁) ≡ step → Left l sc m (Ok (Final m₁)) sc₁ step
 final_left {sc = sc} {sc₁} {m} {m₁} p q = record {
   says = q;
   kept = p.kept;
@@ -58,7 +60,7 @@ head_row s q = row_at s (head_of s q).row
 -- A SIDE REDUCTION OF p CAME TO q, in rows sc₁ up to m₁; t is the term whose head is tried
 module _ {l ds rs cs sc : List ℕ} {g : Given} {m : Meter} {t : Ptr} {count : ℕ} (c : Counted l ds rs cs sc g m t count) (n : ℕ)
     {p q : Ptr} (i : InScope (store_of l sc m.mark) g.depth (ptr_of p)) {sc₁ : List ℕ} {m₁ : Meter}
-    (r : Ran l sc m (reduced.To q m₁) sc₁ (res_by l ds rs cs sc g m n (ptr_of p))) where
+    (r : Ran l sc m (Ok (q, m₁)) sc₁ (res_by l ds rs cs sc g m n (ptr_of p))) where
   abbrev Here : Env
   Here = env_of ds rs cs g.depth
 
@@ -96,7 +98,7 @@ module _ {l ds rs cs sc : List ℕ} {g : Given} {m : Meter} {t : Ptr} {count : �
   major_arguments = (parts_in q_asked.stand.sane (to_depth q_asked.stand q_asked.scope)).arguments
 
   -- no rule after it
-  pub missed_after : {a : Ans} → a ≡ missed (tally_of l sc₁ m₁) → Left l sc m (Final m₁) sc₁ (step_of lim a)
+  pub missed_after : {a : Ans} → a ≡ missed (tally_of l sc₁ m₁) → Left l sc m (Ok (Final m₁)) sc₁ (step_of lim a)
   missed_after q = final_left passed (ap (step_of lim) (sym q))
 
   -- a firing after it

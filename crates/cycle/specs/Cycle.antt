@@ -16,21 +16,22 @@ use Rattle.ways.specs.Spines.{args_of}
 use Rattle.rows.specs.declared.Ptr.{Ptr}
 use Rattle.rows.specs.Words.{ptr_of, decode, words_at, store_of, Held}
 use Rattle.rows.specs.Writes.{Grown}
+use Rattle.rows.specs.Refusals.{number_of}
+use Rattle.tables.specs.declared.codes.DeclKind.TheVariants.{Recursor}
 use Rattle.tables.specs.Env.{env_of}
 use Rattle.tables.specs.Read.{decl_read, HoldersOf}
 use Rattle.state.specs.declared.Given.{Given}
 use Rattle.state.specs.declared.Meter.{Meter}
-use Rattle.state.specs.declared.Reduced.{Reduced}
-use Rattle.state.specs.declared.Reduced.TheVariants.{To, Refused}
+use Rattle.state.specs.State.{Reduced}
 use Rattle.state.specs.State.{tally_of, limits_in}
+use Rattle.std.specs.Prelude.{Err, Ok, Some}
 
 -- WHAT IS GIVEN
 
--- a recursor's rules and the context's records can be read, roles have codes, and the table of holders is that of the declarations
+-- a recursor's rules and the context's records can be read, and the table of holders is that of the declarations
 pub record Tabled (ds rs cs : List ℕ) (g : Given) : Type 0 where
-  pub rules : (d : ℕ) → d < length ds / 16 → (decl_read (part 16 ds d)).kind ≡ 2 →
+  pub rules : (d : ℕ) → d < length ds / 16 → (decl_read (part 16 ds d)).kind ≡ Some Recursor →
       4 * ((decl_read (part 16 ds d)).first_rule + (decl_read (part 16 ds d)).rules) ≤ length rs
-  pub roles : (d : ℕ) → d < length ds / 16 → (decl_read (part 16 ds d)).role ≤ 15
   pub records : 5 * g.depth ≤ length cs
   pub holders : HoldersOf ds g.holders
 
@@ -71,12 +72,12 @@ head_by l ds rs cs sc g m n t =
 
 -- a reduction's term, or its refusal
 abbrev pub res_as : Reduced → List ℕ → List ℕ → Res
-res_as (To p m) l sc = ok (tally_of l sc m) (ptr_of p)
-res_as (Refused k) l sc = no k
+res_as (Ok (p, m)) l sc = ok (tally_of l sc m) (ptr_of p)
+res_as (Err k) l sc = no (number_of k)
 
 abbrev pub meter_after : Reduced → Option Meter
-meter_after (To p m) = some m
-meter_after (Refused k) = none
+meter_after (Ok (p, m)) = some m
+meter_after (Err k) = none
 
 abbrev pub res_by : List ℕ → List ℕ → List ℕ → List ℕ → List ℕ → Given → Meter → ℕ → rules.Ptr → Res
 res_by l ds rs cs sc g m n t = side_at (env_of ds rs cs g.depth) (limits_in g sc) n (tally_of l sc m) t

@@ -6,6 +6,7 @@ use mathlib.Core.Path.{◌≡◌, refl, sym, ap, ap₂, ◌∙◌}
 use mathlib.Core.List.{List}
 use mathlib.Core.Option.{none, some}
 use lib.ListN.{length}
+use Rattle.std.specs.Prelude.{Some, None}
 use Rattle.rules.specs.Kinds.{table}
 use Rattle.rules.specs.Rows as rules
 use Rattle.rules.specs.Rows.{Row, Store, row_at}
@@ -23,7 +24,6 @@ use Rattle.spine.specs.Walks.{Walks, Walked}
 use Rattle.spine.proofs.ForCallers.{may_walk, walked_head, walked_count, walked_head_scope}
 use Rattle.tables.specs.declared.Decl.{Decl}
 use Rattle.tables.specs.Read.{decl_read}
-use Rattle.fields.specs.declared.ConstantFound.TheVariants.{Found, NoConstant}
 use Rattle.fields.specs.Fields.{Reduced, head_row, constant_read, Marked, ConstantAt}
 
 -- WHICH ROW A KIND WORD GIVES
@@ -47,20 +47,17 @@ no_constant_row (suc (suc (suc (suc (suc (suc (suc (suc (suc k))))))))) a b c f 
 
 -- A CONSTANT IN A ROW THAT PASSES NAMES A DECLARATION
 
-none_some : {x : ℕ} → none ≡ some x → ⊥
-none_some e = let z : ◌≡◌ {A = ℕ} 0 1 = cc in omega arith
-
 names : {D : ℕ} {w : Row} {c : ℕ} → Worded D w → as_constant w ≡ some c → c < D
 unfolding as_constant
-names var_worded e = absurd (none_some e)
-names (node_worded (sort_in h)) e = absurd (none_some e)
+names var_worded e = cc
+names (node_worded (sort_in h)) e = cc
 names {c = c} (node_worded (const_in {d = d} h n)) e = let z : d ≡ c = cc in omega arith
-names (node_worded app_in) e = absurd (none_some e)
-names (node_worded lam_in) e = absurd (none_some e)
-names (node_worded pi_in) e = absurd (none_some e)
-names (node_worded let_in) e = absurd (none_some e)
-names (node_worded (proj_in h)) e = absurd (none_some e)
-names (node_worded (num_in h)) e = absurd (none_some e)
+names (node_worded app_in) e = cc
+names (node_worded lam_in) e = cc
+names (node_worded pi_in) e = cc
+names (node_worded let_in) e = cc
+names (node_worded (proj_in h)) e = cc
+names (node_worded (num_in h)) e = cc
 
 pub names_here : {D : ℕ} {s : Store} (q : rules.Ptr) {c : ℕ} → AllPass D s → as_constant (head_row s q) ≡ some c → c < D
 names_here {s = s} q pass e = names ((pass_worded pass).each (head_of s q).row) e
@@ -109,12 +106,12 @@ module _ (l ds sc : List ℕ) (q : Ptr) (sp : Spined) (walked : Walked (whole l 
 
     -- THE TWO WAYS OUT
 
-    pub at_constant : w.kind ≡ 2 → (D : Decl) → D ≡ decl_read (part 16 ds w.first.row) → ConstantAt l ds sc q (Found D sp.count)
+    pub at_constant : w.kind ≡ 2 → (D : Decl) → D ≡ decl_read (part 16 ds w.first.row) → ConstantAt l ds sc q (Some (D, sp.count))
     at_constant e D r = record {
-      is = λ k. ap₂ (constant_read ds) (is_constant k w read e) (many k) ∙ ap (λ (x : Decl). Found x sp.count) (sym r);
+      is = λ k. ap₂ (constant_read ds) (is_constant k w read e) (many k) ∙ ap (λ (x : Decl). Some (x, sp.count)) (sym r);
     }
 
-    pub at_no_constant : (w.kind ≡ 2 → ⊥) → ConstantAt l ds sc q NoConstant
+    pub at_no_constant : (w.kind ≡ 2 → ⊥) → ConstantAt l ds sc q None
     at_no_constant f = record {
       is = λ k. ap₂ (constant_read ds) (no_constant k w read f) (many k);
     }

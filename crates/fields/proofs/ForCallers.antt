@@ -6,6 +6,7 @@ use mathlib.Core.Path.{◌≡◌, sym, ap, ◌∙◌}
 use mathlib.Core.List.{List}
 use mathlib.Core.Option.{none, some}
 use lib.ListN.{length}
+use Rattle.std.specs.Prelude.{Option as Maybe, Some, None}
 use Rattle.rules.specs.Rows as rules
 use Rattle.rules.specs.Rows.{Row, Store}
 use Rattle.rules.specs.RowCheck.{AllPass, InScope}
@@ -19,12 +20,10 @@ use Rattle.ways.specs.Spines.{args_of, spine_of}
 use Rattle.rows.specs.declared.Ptr.{Ptr}
 use Rattle.rows.specs.Words.{ptr_of, store_of, Held}
 use Rattle.tables.specs.Env.{env_of}
-use Rattle.fields.specs.declared.FieldFound.{FieldFound}
-use Rattle.fields.specs.declared.FieldFound.TheVariants.{Found, NoField}
 use Rattle.fields.specs.Fields.{head_row, found_field, FieldAt, QuotMade}
 
-module _ (l ds sc : List ℕ) (q : Ptr) (nlib m d : ℕ) (held : Held l sc m nlib) (pass : AllPass (length ds / 16) (store_of l sc m)) (scope : InScope (store_of l sc m) d (ptr_of q))
-    (rs cs : List ℕ) (depth : ℕ) (r : FieldFound) where
+module _ (l ds sc : List ℕ) (q : Ptr) (nlib m d : ℕ) (held : Held l sc m nlib) (pass : AllPass (length ds / 16) (store_of l sc m))
+    (scope : InScope (store_of l sc m) d (ptr_of q)) (rs cs : List ℕ) (depth : ℕ) (r : Maybe Ptr) where
   abbrev s : Store
   s = store_of l sc m
 
@@ -41,27 +40,27 @@ module _ (l ds sc : List ℕ) (q : Ptr) (nlib m d : ℕ) (held : Held l sc m nli
   args_in = (spine_in pass scope none_in (spine_of (pass_formed pass) (scope_good scope))).arguments
 
   module _ (index : ℕ) (answered : FieldAt l ds sc q index r) where
-    field_is : (r' : FieldFound) → r ≡ r' → field_at env row args index ≡ found_field r'
+    field_is : (r' : Maybe Ptr) → r ≡ r' → field_at env row args index ≡ found_field r'
     field_is r' e = sym (answered.is rs cs depth nlib m d held pass scope) ∙ ap found_field e
 
-    pub field_missed : r ≡ NoField → field_at env row args index ≡ none
-    field_missed e = field_is NoField e
+    pub field_missed : r ≡ None → field_at env row args index ≡ none
+    field_missed e = field_is None e
 
-    pub field_found : (p : Ptr) → r ≡ Found p → field_at env row args index ≡ some (ptr_of p)
-    field_found p e = field_is (Found p) e
+    pub field_found : (p : Ptr) → r ≡ Some p → field_at env row args index ≡ some (ptr_of p)
+    field_found p e = field_is (Some p) e
 
-    pub field_scope : (p : Ptr) → r ≡ Found p → InScope s d (ptr_of p)
-    field_scope p e = field_in env row index args_in (field_is (Found p) e)
+    pub field_scope : (p : Ptr) → r ≡ Some p → InScope s d (ptr_of p)
+    field_scope p e = field_in env row index args_in (field_is (Some p) e)
 
   module _ (answered : QuotMade l ds sc q r) where
-    element_is : (r' : FieldFound) → r ≡ r' → quot_made env row args ≡ found_field r'
+    element_is : (r' : Maybe Ptr) → r ≡ r' → quot_made env row args ≡ found_field r'
     element_is r' e = sym (answered.is rs cs depth nlib m d held pass scope) ∙ ap found_field e
 
-    pub element_missed : r ≡ NoField → quot_made env row args ≡ none
-    element_missed e = element_is NoField e
+    pub element_missed : r ≡ None → quot_made env row args ≡ none
+    element_missed e = element_is None e
 
-    pub element_found : (p : Ptr) → r ≡ Found p → quot_made env row args ≡ some (ptr_of p)
-    element_found p e = element_is (Found p) e
+    pub element_found : (p : Ptr) → r ≡ Some p → quot_made env row args ≡ some (ptr_of p)
+    element_found p e = element_is (Some p) e
 
-    pub element_scope : (p : Ptr) → r ≡ Found p → InScope s d (ptr_of p)
-    element_scope p e = made_in env row args_in (element_is (Found p) e)
+    pub element_scope : (p : Ptr) → r ≡ Some p → InScope s d (ptr_of p)
+    element_scope p e = made_in env row args_in (element_is (Some p) e)

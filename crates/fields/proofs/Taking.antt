@@ -9,26 +9,24 @@ use mathlib.Core.Option.{Option, none, some}
 use borrow.Author.Tests.{eq-eqb, ne_eqb}
 use lib.Dec.{eqb}
 use lib.ListN.{length}
+use Rattle.std.specs.Prelude.{Option as Maybe, Some, None}
 use Rattle.rules.specs.Rows as rules
 use Rattle.rules.specs.Rows.{Row}
 use Rattle.rules.specs.Declarations as declarations
 use Rattle.rules.specs.Declarations.{Env, nth, decl_at, role_code}
 use Rattle.rules.specs.Accepted.{part}
 use Rattle.rules.specs.HeadTests.{given, provided, as_constant, parameters_of, field_at, third_of_three, quot_made}
-use Rattle.course.specs.Views.{Cmp, up_to, over, cmp}
 use Rattle.ways.specs.Spines.{args_of}
 use Rattle.rows.specs.declared.Ptr.{Ptr}
 use Rattle.rows.specs.Words.{ptr_of, store_of, whole}
 use Rattle.spine.specs.Walks.{Argument, Counted}
 use Rattle.spine.proofs.ForCallers.{may_ask, argument_is}
 use Rattle.tables.specs.declared.Decl.{Decl}
-use Rattle.tables.specs.Env.{role_by, decl_of, env_of}
+use Rattle.tables.specs.declared.codes.DeclKind.TheVariants.{Constructor}
+use Rattle.tables.specs.declared.codes.Role.TheVariants.{QuotMk}
+use Rattle.tables.specs.Env.{env_of}
 use Rattle.tables.specs.Read.{decl_read}
-use Rattle.tables.specs.ReadLaws.{decl_is, parameters_are, no_parameters, role_code_lem, no_code}
-use Rattle.fields.specs.declared.ConstantFound.{ConstantFound}
-use Rattle.fields.specs.declared.ConstantFound.TheVariants as constant
-use Rattle.fields.specs.declared.FieldFound.{FieldFound}
-use Rattle.fields.specs.declared.FieldFound.TheVariants.{Found, NoField}
+use Rattle.tables.specs.ReadLaws.{parameters_are, no_parameters, has_role, has_no_such_role}
 use Rattle.fields.specs.Fields.{Reduced, head_row, constant_read, found_field, Marked, ConstantAt, FieldAt, QuotMade}
 use Rattle.fields.proofs.Constants.{names_here, its_mark}
 
@@ -41,13 +39,15 @@ record Named (ds : List ℕ) (o : Option ℕ) (n : ℕ) (D : Decl) (count : ℕ)
   read : decl_read (part 16 ds number) ≡ D
   many : n ≡ count
 
-named : {ds : List ℕ} {D : Decl} {count : ℕ} (o : Option ℕ) (n : ℕ) → constant_read ds o n ≡ constant.Found D count → Named ds o n D count
-named none n e = absurd (let z : ◌≡◌ {A = ℕ} 0 1 = cc in omega arith)
-named (some c) n e = record { number = c; is = refl; read = let z = e in cc; many = let z = e in cc }
+named : {ds : List ℕ} {D : Decl} {count : ℕ} (o : Option ℕ) (n : ℕ) → constant_read ds o n ≡ Some (D, count) → Named ds o n D count
+named none n e = cc
+named {ds} {D} {count} (some c) n e =
+    let same : (decl_read (part 16 ds c), n) ≡ (D, count) = cc in
+    record { number = c; is = refl; read = ap (λ (p : Decl × ℕ). p.0) same; many = ap (λ (p : Decl × ℕ). p.1) same }
 
-unnamed : (ds : List ℕ) (o : Option ℕ) (n : ℕ) → constant_read ds o n ≡ constant.NoConstant → o ≡ none
+unnamed : (ds : List ℕ) (o : Option ℕ) (n : ℕ) → constant_read ds o n ≡ None → o ≡ none
 unnamed ds none n e = refl
-unnamed ds (some c) n e = absurd (let z : ◌≡◌ {A = ℕ} 0 1 = cc in omega arith)
+unnamed ds (some c) n e = cc
 
 -- WHAT THE RULES' TESTS TURN ON
 
@@ -94,112 +94,107 @@ not_three (a ∷ b ∷ []) f = refl
 not_three (a ∷ b ∷ c ∷ []) f = absurd (f refl)
 not_three (a ∷ b ∷ c ∷ d ∷ xs) f = refl
 
--- a code past 15 is no role's, so it is not Quot.mk's
-other_code : (n : ℕ) → (n ≡ 6 → ⊥) → role_code (role_by n) ≡ 6 → ⊥
-other_code n f e = go (cmp n 15)
-  where
-    go : Cmp n 15 → ⊥
-    go (up_to h) = f (sym (role_code_lem n h) ∙ e)
-    go (over h) = let z = no_code n (omega arith) in omega arith
-
 -- THE WAYS OUT
 
 module _ (l ds sc : List ℕ) (q : Ptr) where
   -- the rules' answers, at a mark
   abbrev field_here : ℕ → List ℕ → List ℕ → ℕ → Marked l ds sc q → Option rules.Ptr
-  field_here index rs cs depth k = field_at (env_of ds rs cs depth) (head_row (store_of l sc k.mark) (ptr_of q)) (args_of (store_of l sc k.mark) (ptr_of q)) index
+  field_here index rs cs depth k =
+      field_at (env_of ds rs cs depth) (head_row (store_of l sc k.mark) (ptr_of q)) (args_of (store_of l sc k.mark) (ptr_of q)) index
 
   abbrev element_here : List ℕ → List ℕ → ℕ → Marked l ds sc q → Option rules.Ptr
   element_here rs cs depth k = quot_made (env_of ds rs cs depth) (head_row (store_of l sc k.mark) (ptr_of q)) (args_of (store_of l sc k.mark) (ptr_of q))
 
-  field_says : (index : ℕ) (r : FieldFound) → ((rs cs : List ℕ) (depth : ℕ) (k : Marked l ds sc q) → field_here index rs cs depth k ≡ found_field r) → FieldAt l ds sc q index r
+  field_says : (index : ℕ) (r : Maybe Ptr) →
+      ((rs cs : List ℕ) (depth : ℕ) (k : Marked l ds sc q) → field_here index rs cs depth k ≡ found_field r) → FieldAt l ds sc q index r
   field_says index r f = record {
     is = λ rs cs depth nlib m d held pass scope. sym (f rs cs depth (record { nlib = nlib; mark = m; depth = d; held = held; pass = pass; scope = scope }));
   }
 
-  element_says : (r : FieldFound) → ((rs cs : List ℕ) (depth : ℕ) (k : Marked l ds sc q) → element_here rs cs depth k ≡ found_field r) → QuotMade l ds sc q r
+  element_says : (r : Maybe Ptr) → ((rs cs : List ℕ) (depth : ℕ) (k : Marked l ds sc q) → element_here rs cs depth k ≡ found_field r) → QuotMade l ds sc q r
   element_says r f = record {
     is = λ rs cs depth nlib m d held pass scope. sym (f rs cs depth (record { nlib = nlib; mark = m; depth = d; held = held; pass = pass; scope = scope }));
   }
 
-  module _ (r : ConstantFound) (at : ConstantAt l ds sc q r) where
-    pub no_constant_field : r ≡ constant.NoConstant → (index : ℕ) → FieldAt l ds sc q index NoField
-    no_constant_field e index = field_says index NoField λ rs cs depth k. field_by _ _ _ index none (unnamed ds _ _ (at.is k ∙ e))
+  module _ (at : ConstantAt l ds sc q None) where
+    pub no_constant_field : (index : ℕ) → FieldAt l ds sc q index None
+    no_constant_field index = field_says index None λ rs cs depth k. field_by _ _ _ index none (unnamed ds _ _ (at.is k))
 
-    pub no_constant_element : r ≡ constant.NoConstant → QuotMade l ds sc q NoField
-    no_constant_element e = element_says NoField λ rs cs depth k. element_by _ _ _ none (unnamed ds _ _ (at.is k ∙ e))
+    pub no_constant_element : QuotMade l ds sc q None
+    no_constant_element = element_says None λ rs cs depth k. element_by _ _ _ none (unnamed ds _ _ (at.is k))
 
-    module _ (D : Decl) (count : ℕ) (found : r ≡ constant.Found D count) where
-      module _ (k : Marked l ds sc q) where
-        abbrev row : Row
-        row = head_row (store_of l sc k.mark) (ptr_of q)
+  module _ (D : Decl) (count : ℕ) (at : ConstantAt l ds sc q (Some (D, count))) where
+    module _ (k : Marked l ds sc q) where
+      abbrev row : Row
+      row = head_row (store_of l sc k.mark) (ptr_of q)
 
-        abbrev args : List rules.Ptr
-        args = args_of (store_of l sc k.mark) (ptr_of q)
+      abbrev args : List rules.Ptr
+      args = args_of (store_of l sc k.mark) (ptr_of q)
 
-        it : Named ds (as_constant row) (length args) D count
-        it = named (as_constant row) (length args) (at.is k ∙ found)
+      it : Named ds (as_constant row) (length args) D count
+      it = named (as_constant row) (length args) (at.is k)
 
-        below : it.number < length ds / 16
-        below = names_here (ptr_of q) k.pass it.is
+      below : it.number < length ds / 16
+      below = names_here (ptr_of q) k.pass it.is
 
-        argument_at : (i : ℕ) (p : Ptr) → Argument (whole l sc) (ptr_of q) count i p → nth args i ≡ some (ptr_of p)
-        argument_at i p a = argument_is l sc k.mark k.nlib _ k.depth k.held k.pass q k.scope count i p it.many a
+      argument_at : (i : ℕ) (p : Ptr) → Argument (whole l sc) (ptr_of q) count i p → nth args i ≡ some (ptr_of p)
+      argument_at i p a = argument_is l sc k.mark k.nlib _ k.depth k.held k.pass q k.scope count i p it.many a
 
-        module _ (rs cs : List ℕ) (depth : ℕ) where
-          abbrev env : Env
-          env = env_of ds rs cs depth
+      module _ (rs cs : List ℕ) (depth : ℕ) where
+        abbrev env : Env
+        env = env_of ds rs cs depth
 
-          -- the rules' declaration
-          abbrev said : declarations.Decl
-          said = decl_at env.decls it.number
+        -- the rules' declaration
+        abbrev said : declarations.Decl
+        said = decl_at env.decls it.number
 
-          kind_is : (decl_read (part 16 ds it.number)).kind ≡ D.kind
-          kind_is = ap (λ (x : Decl). x.kind) it.read
+        kind_is : (decl_read (part 16 ds it.number)).kind ≡ D.kind
+        kind_is = ap (λ (x : Decl). x.kind) it.read
 
-          field_without : (index : ℕ) → (D.kind ≡ 1 → ⊥) → field_at env row args index ≡ none
-          field_without index f =
-              field_by env row args index (some it.number) it.is
-              ∙ ap (field_of env row args index) (no_parameters ds rs cs depth it.number below λ e. f (sym kind_is ∙ e))
+        field_without : (index : ℕ) → (D.kind ≡ Some Constructor → ⊥) → field_at env row args index ≡ none
+        field_without index f =
+            field_by env row args index (some it.number) it.is
+            ∙ ap (field_of env row args index) (no_parameters ds rs cs depth it.number below λ e. f (sym kind_is ∙ e))
 
-          field_with : (index : ℕ) → D.kind ≡ 1 → field_at env row args index ≡ nth args (D.parameters + index)
-          field_with index e =
-              field_by env row args index (some it.number) it.is
-              ∙ ap (field_of env row args index) (parameters_are ds rs cs depth it.number below (kind_is ∙ e) ∙ ap (λ (x : Decl). some x.parameters) it.read)
+        field_with : (index : ℕ) → D.kind ≡ Some Constructor → field_at env row args index ≡ nth args (D.parameters + index)
+        field_with index e =
+            field_by env row args index (some it.number) it.is
+            ∙ ap (field_of env row args index) (parameters_are ds rs cs depth it.number below (kind_is ∙ e) ∙ ap (λ (x : Decl). some x.parameters) it.read)
 
-          code_is : role_code said.role ≡ role_code (role_by D.role)
-          unfolding decl_of
-          code_is =
-              ap (λ (x : declarations.Decl). role_code x.role) (decl_is ds rs cs depth it.number below) ∙ ap (λ (x : Decl). role_code (role_by x.role)) it.read
+        role_is : (decl_read (part 16 ds it.number)).role ≡ D.role
+        role_is = ap (λ (x : Decl). x.role) it.read
 
-          element_without : (D.role ≡ 6 → ⊥) → quot_made env row args ≡ none
-          element_without f =
-              element_by env row args (some it.number) it.is
-              ∙ ap (element_of env row args) (ne_eqb (role_code said.role) 6 λ e. other_code D.role f (sym code_is ∙ e))
+        element_without : (D.role ≡ Some QuotMk → ⊥) → quot_made env row args ≡ none
+        element_without f =
+            element_by env row args (some it.number) it.is
+            ∙ ap (element_of env row args) (ne_eqb (role_code said.role) 6 (has_no_such_role ds rs cs depth it.number below QuotMk λ e. f (sym role_is ∙ e)))
 
-          element_with : D.role ≡ 6 → quot_made env row args ≡ third_of_three args
-          element_with e =
-              let six = code_is ∙ ap (λ (n : ℕ). role_code (role_by n)) e ∙ role_code_lem 6 (omega arith) in
-              element_by env row args (some it.number) it.is ∙ ap (element_of env row args) (eq-eqb (role_code said.role) 6 six)
+        element_with : D.role ≡ Some QuotMk → quot_made env row args ≡ third_of_three args
+        element_with e =
+            element_by env row args (some it.number) it.is
+            ∙ ap (element_of env row args) (eq-eqb (role_code said.role) 6 (has_role ds rs cs depth it.number below QuotMk (role_is ∙ e)))
 
-      pub may_take : Reduced l ds sc q → Counted l sc q count
-      may_take k = may_ask l sc k.mark k.nlib _ k.depth k.held k.pass q k.scope k.small count (it (its_mark k)).many
+    pub may_take : Reduced l ds sc q → Counted l sc q count
+    may_take k = may_ask l sc k.mark k.nlib _ k.depth k.held k.pass q k.scope k.small count (it (its_mark k)).many
 
-      module _ (index : ℕ) where
-        pub no_constructor : (D.kind ≡ 1 → ⊥) → FieldAt l ds sc q index NoField
-        no_constructor f = field_says index NoField λ rs cs depth k. field_without k rs cs depth index f
+    module _ (index : ℕ) where
+      pub no_constructor : (D.kind ≡ Some Constructor → ⊥) → FieldAt l ds sc q index None
+      no_constructor f = field_says index None λ rs cs depth k. field_without k rs cs depth index f
 
-        pub no_such_field : D.kind ≡ 1 → count ≤ D.parameters + index → FieldAt l ds sc q index NoField
-        no_such_field e h = field_says index NoField λ rs cs depth k. field_with k rs cs depth index e ∙ nth_past (args k) _ (omega (arith, h, (it k).many))
+      pub no_such_field : D.kind ≡ Some Constructor → count ≤ D.parameters + index → FieldAt l ds sc q index None
+      no_such_field e h = field_says index None λ rs cs depth k. field_with k rs cs depth index e ∙ nth_past (args k) _ (omega (arith, h, (it k).many))
 
-        pub the_field : D.kind ≡ 1 → (p : Ptr) → Argument (whole l sc) (ptr_of q) count (D.parameters + index) p → FieldAt l ds sc q index (Found p)
-        the_field e p a = field_says index (Found p) λ rs cs depth k. field_with k rs cs depth index e ∙ argument_at k (D.parameters + index) p a
+      pub the_field : D.kind ≡ Some Constructor → (i : ℕ) → i ≡ D.parameters + index → (p : Ptr) → Argument (whole l sc) (ptr_of q) count i p →
+          FieldAt l ds sc q index (Some p)
+      the_field e i is p a =
+          field_says index (Some p) λ rs cs depth k.
+          field_with k rs cs depth index e ∙ ap (nth (args k)) (sym is) ∙ argument_at k i p a
 
-      pub no_quot_mk : (D.role ≡ 6 → ⊥) → QuotMade l ds sc q NoField
-      no_quot_mk f = element_says NoField λ rs cs depth k. element_without k rs cs depth f
+    pub no_quot_mk : (D.role ≡ Some QuotMk → ⊥) → QuotMade l ds sc q None
+    no_quot_mk f = element_says None λ rs cs depth k. element_without k rs cs depth f
 
-      pub other_count : D.role ≡ 6 → (count ≡ 3 → ⊥) → QuotMade l ds sc q NoField
-      other_count e f = element_says NoField λ rs cs depth k. element_with k rs cs depth e ∙ not_three (args k) λ z. f (sym (it k).many ∙ z)
+    pub other_count : D.role ≡ Some QuotMk → (count ≡ 3 → ⊥) → QuotMade l ds sc q None
+    other_count e f = element_says None λ rs cs depth k. element_with k rs cs depth e ∙ not_three (args k) λ z. f (sym (it k).many ∙ z)
 
-      pub the_element : D.role ≡ 6 → count ≡ 3 → (p : Ptr) → Argument (whole l sc) (ptr_of q) count 2 p → QuotMade l ds sc q (Found p)
-      the_element e z p a = element_says (Found p) λ rs cs depth k. element_with k rs cs depth e ∙ three (args k) ((it k).many ∙ z) ∙ argument_at k 2 p a
+    pub the_element : D.role ≡ Some QuotMk → count ≡ 3 → (p : Ptr) → Argument (whole l sc) (ptr_of q) count 2 p → QuotMade l ds sc q (Some p)
+    the_element e z p a = element_says (Some p) λ rs cs depth k. element_with k rs cs depth e ∙ three (args k) ((it k).many ∙ z) ∙ argument_at k 2 p a

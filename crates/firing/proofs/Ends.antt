@@ -1,9 +1,9 @@
 -- How a firing ends: from what was written to the answer, on plain values.
 -- Assumes nothing.
-use Prim.Native.Nat.{ℕ, ◌+◌, ◌-◌, ◌≤◌, ◌<◌}
+use Prim.Native.Nat.{ℕ, ◌-◌, ◌≤◌, ◌<◌}
 use native.Mathlib.Numerals.{add-one}
 use native.Mathlib.Omega.{arith}
-use mathlib.Core.Path.{◌≡◌, refl, sym, ap, ◌∙◌, subst}
+use mathlib.Core.Path.{◌≡◌, refl, ap, ◌∙◌, subst}
 use mathlib.Core.List.{List}
 use mathlib.Core.Option.{none, some}
 use lib.ListN.{length, drop, length-drop}
@@ -18,39 +18,41 @@ use Rattle.course.specs.Charged.{join_in, give_in, due_in}
 use Rattle.ways.specs.Steps.{Step, fired, stopped, out_step, fire_in_on, fire_in}
 use Rattle.ways.specs.Spines.{args_of}
 use Rattle.rows.specs.declared.Ptr.{Ptr}
-use Rattle.rows.specs.declared.Out.{Out}
-use Rattle.rows.specs.declared.Out.TheVariants.{Done, Refused}
 use Rattle.rows.specs.Words.{ptr_of, store_of}
-use Rattle.rows.specs.Writes.{out_of, Grown, Wrote}
+use Rattle.rows.specs.Writes.{Grown, Wrote}
 use Rattle.state.specs.declared.Meter.{Meter}
-use Rattle.state.specs.declared.Answer.{Answer}
-use Rattle.state.specs.declared.Answer.TheVariants as answer
-use Rattle.state.specs.State.{Left}
+use Rattle.state.specs.State.{Answer}
+use Rattle.state.specs.State.{one_step, Left}
 use Rattle.spine.specs.Walks.{run_in}
+use Rattle.std.specs.Prelude.{Err, Ok}
+use Rattle.state.specs.declared.Tried.TheVariants.{Term}
+use Rattle.rows.specs.Refusals.{number_of}
+use Rattle.rows.specs.declared.refusals.Refusal.{Refusal}
 
 pub none_some : {A : Type 0} {x : A} → none ≡ some x → ⊥
 none_some {A} {x} q = let z : ◌≡◌ {A = ℕ} 0 1 = cc in omega arith
 
 -- WHAT WAS WRITTEN, AS AN ANSWER. The step is there: it is counted with the term.
-module _ (lim : Limits) (l sc : List ℕ) (m : Meter) (r : Out) (sc' : List ℕ) (out : course.Out) (w : Wrote l sc m.mark r sc' out) where
-  pub wrote_term : (p : Ptr) (mark : ℕ) → r ≡ Done p mark → Left l sc m (answer.Term p (record { mark = mark; steps = m.steps + 1 })) sc' (out_step lim m.steps out)
-  wrote_term p mark e = record {
-    says = ap (λ (n : ℕ). fired (tally n (store_of l sc' mark)) (ptr_of p)) (add-one m.steps) ∙ ap (out_step lim m.steps) (ap (λ (x : Out). out_of x l sc') (sym e) ∙ w.says);
+module _ (lim : Limits) (l sc : List ℕ) (m : Meter) (sc' : List ℕ) (out : course.Out) where
+  pub wrote_term : {p : Ptr} {mark : ℕ} → Wrote l sc m.mark (Ok (p, mark)) sc' out →
+      Left l sc m (Ok (Term p (one_step m mark))) sc' (out_step lim m.steps out)
+  wrote_term {p} {mark} w = record {
+    says = ap (λ (n : ℕ). fired (tally n (store_of l sc' mark)) (ptr_of p)) (add-one m.steps) ∙ ap (out_step lim m.steps) w.says;
     kept = w.kept;
     same_length = w.same_length;
-    grown = λ m' q. let z : record { mark = mark; steps = m.steps + 1 } ≡ m' = cc in subst (λ (x : Meter). Grown sc m.mark sc' x.mark) z (w.grown p mark e);
+    grown = λ m' q. let z : one_step m mark ≡ m' = cc in subst (λ (x : Meter). Grown sc m.mark sc' x.mark) z (w.grown p mark refl);
   }
 
-  pub wrote_refused : (k : ℕ) → r ≡ Refused k → Left l sc m (answer.Refused k) sc' (out_step lim m.steps out)
-  wrote_refused k e = record {
-    says = ap (out_step lim m.steps) (ap (λ (x : Out). out_of x l sc') (sym e) ∙ w.says);
+  pub wrote_refused : {k : Refusal} → Wrote l sc m.mark (Err k) sc' out → Left l sc m (Err k) sc' (out_step lim m.steps out)
+  wrote_refused w = record {
+    says = ap (out_step lim m.steps) w.says;
     kept = w.kept;
     same_length = w.same_length;
     grown = λ m' q. absurd (none_some q);
   }
 
 -- a refusal before anything is written
-pub stopped_before : {l sc : List ℕ} {m : Meter} {step : Step} (k : ℕ) → stopped k ≡ step → Left l sc m (answer.Refused k) sc step
+pub stopped_before : {l sc : List ℕ} {m : Meter} {step : Step} (k : Refusal) → stopped (number_of k) ≡ step → Left l sc m (Err k) sc step
 stopped_before k e = record { says = e; kept = refl; same_length = refl; grown = λ m' q. absurd (none_some q) }
 
 -- A RUN TO THE END of the arguments is all from `from` on

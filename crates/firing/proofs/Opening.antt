@@ -3,7 +3,7 @@
 use Prim.Native.Nat.{ℕ, ◌+◌, ◌*◌, ◌/◌, ◌≤◌, ◌<◌}
 use native.Mathlib.Nat.{le_refl}
 use native.Mathlib.Omega.{arith}
-use mathlib.Core.Path.{◌≡◌, refl, sym, ap, ◌∙◌, subst}
+use mathlib.Core.Path.{◌≡◌, refl, sym, ap, ◌∙◌}
 use mathlib.Core.List.{List}
 use mathlib.Core.Option.{some}
 use lib.ListN.{length, take, drop}
@@ -23,10 +23,9 @@ use Rattle.safety.specs.Sane.{in_later}
 use Rattle.ways.specs.Steps.{Step, out_step, fire_in_on, fire_in}
 use Rattle.ways.specs.Spines.{args_of, args_later}
 use Rattle.rows.specs.declared.Ptr.{Ptr}
-use Rattle.rows.specs.declared.Out.{Out}
-use Rattle.rows.specs.declared.Out.TheVariants.{Done, Refused}
+use Rattle.rows.specs.Refusals.{Out}
 use Rattle.rows.specs.Words.{ptr_of, store_of}
-use Rattle.rows.specs.Writes.{out_of, Wrote}
+use Rattle.rows.specs.Writes.{Wrote}
 use Rattle.rows.proofs.InTurn.{grown_on, done_held, done_are_rows}
 use Rattle.replace.specs.declared.Sub.{Sub}
 use Rattle.replace.specs.Replaced.{PtrReady, Replaced}
@@ -34,11 +33,13 @@ use Rattle.replace.proofs.Later.{held_room}
 use Rattle.replace.proofs.Comes.{Came, came}
 use Rattle.state.specs.declared.Given.{Given}
 use Rattle.state.specs.declared.Meter.{Meter}
-use Rattle.state.specs.declared.Answer.{Answer}
-use Rattle.state.specs.declared.Answer.TheVariants as answer
-use Rattle.state.specs.State.{tally_of, limits_in, Headed, Left}
+use Rattle.state.specs.State.{Answer}
+use Rattle.state.specs.State.{metered_at, tally_of, limits_in, Headed, Left}
 use Rattle.firing.specs.Fires.{Opens}
 use Rattle.firing.proofs.Ends.{none_some, left_as}
+use Rattle.std.specs.Prelude.{Err, Ok, Some}
+use Rattle.rows.specs.Refusals.{number_of}
+use Rattle.rows.specs.declared.refusals.Refusal.{Refusal}
 
 -- ONE WRITE, AND THEN AN ANSWER
 
@@ -46,7 +47,7 @@ use Rattle.firing.proofs.Ends.{none_some, left_as}
 fewer : (xs ys : List ℕ) (a b : ℕ) → a ≤ b → take b xs ≡ take b ys → take a xs ≡ take a ys
 fewer xs ys a b h e = sym (take-take a b xs h) ∙ ap (take a) e ∙ take-take a b ys h
 
-module _ (l sc : List ℕ) (m : Meter) (p : Ptr) (mark : ℕ) (sc₁ : List ℕ) (out : course.Out) (first : Wrote l sc m.mark (Done p mark) sc₁ out) where
+module _ (l sc : List ℕ) (m : Meter) (p : Ptr) (mark : ℕ) (sc₁ : List ℕ) (out : course.Out) (first : Wrote l sc m.mark (Ok (p, mark)) sc₁ out) where
   pub left_after : {r : Answer} {sc₂ : List ℕ} {step : Step} (steps : ℕ) → Left l sc₁ (record { mark = mark; steps = steps }) r sc₂ step → Left l sc m r sc₂ step
   left_after {sc₂ = sc₂} steps k =
       let g = first.grown p mark refl in
@@ -92,7 +93,7 @@ opened_fires lim m b v k xs h = go (cmp lim.steps m.steps)
 module _ (l sc : List ℕ) (g : Given) (m : Meter) (body value : Ptr) (by : ℕ) (t : Ptr) (count : ℕ)
     (h : Headed l sc g m t count) (o : Opens (store_of l sc m.mark) body value by) where
   abbrev x : Sub
-  x = record { value = value; count = 1; by = by }
+  x = record { value = Some value; by = by }
 
   pub may_replace : PtrReady l sc g.nlib m.mark body 0 x
   may_replace =
@@ -101,7 +102,6 @@ module _ (l sc : List ℕ) (g : Given) (m : Meter) (body value : Ptr) (by : ℕ)
       record {
         ready = record {
           sound = record { held = old.held; words = old.words; declarations = old.declarations; pass = old.pass };
-          one = omega arith;
           value = some_good o.value_good;
           value_shift = o.value_shift;
           move = o.move;
@@ -128,47 +128,56 @@ module _ (l sc : List ℕ) (g : Given) (m : Meter) (body value : Ptr) (by : ℕ)
       ap (λ (y : course.Out). out_step (limits_in g sc) m.steps (and_on y (λ q. join_in most q.store q.at xs))) e ∙
       opened_fires (limits_in g sc) (tally_of l sc m) (ptr_of body) (ptr_of value) by xs n
 
-  module _ (r : Out) (sc₁ : List ℕ) (done : Replaced l sc g.nlib m.mark body 0 x r sc₁) where
-    written : Wrote l sc m.mark r sc₁ due
-    written = done.wrote (cell_at s body.row).height (le_refl _)
+  module _ (sc₁ : List ℕ) where
+    -- what replacement promises, for whatever it answered
+    abbrev Done : Out → Type 0
+    Done r = Replaced l sc g.nlib m.mark body 0 x r sc₁
 
-    pub replace_stops : m.steps < g.steps → (k : ℕ) → r ≡ Refused k → (xs : List rules.Ptr) →
-        Left l sc m (answer.Refused k) sc₁ (fire_in (limits_in g sc) (tally_of l sc m) (opened (ptr_of body) (ptr_of value) by) xs)
-    replace_stops n k e xs =
-        let w = written in
+    written : {r : Out} → Done r → Wrote l sc m.mark r sc₁ due
+    written done = done.wrote (cell_at s body.row).height (le_refl _)
+
+    pub replace_stops : m.steps < g.steps → {k : Refusal} → Done (Err k) → (xs : List rules.Ptr) →
+        Left l sc m (Err k) sc₁ (fire_in (limits_in g sc) (tally_of l sc m) (opened (ptr_of body) (ptr_of value) by) xs)
+    replace_stops n {k} done xs =
+        let w = written done in
         record {
-          says = fires_from n (course.refused k) (ap (λ (u : Out). out_of u l sc₁) (sym e) ∙ w.says) xs;
+          says = fires_from n (course.refused (number_of k)) w.says xs;
           kept = w.kept;
           same_length = w.same_length;
           grown = λ m' z. absurd (none_some z);
         }
 
-    module _ (p : Ptr) (mark : ℕ) (e : r ≡ Done p mark) where
-      wrote_first : Wrote l sc m.mark (Done p mark) sc₁ due
-      wrote_first = subst (λ (u : Out). Wrote l sc m.mark u sc₁ due) e written
+    module _ {p : Ptr} {mark : ℕ} (done : Done (Ok (p, mark))) where
+      wrote_first : Wrote l sc m.mark (Ok (p, mark)) sc₁ due
+      wrote_first = written done
 
       came_to : Came h.used.declarations (some (ptr_of value)) by 0 s (ptr_of body) (got (store_of l sc₁ mark) (ptr_of p))
       came_to =
           came h.used.declarations (some (ptr_of value)) by 0 s (ptr_of body) most (cell_at s body.row).height h.used.pass o.body_good (some_good o.value_good)
           (held_room l sc m.mark g.nlib h.used.held) (le_refl _) wrote_first.says
 
-      pub rest_headed : Headed l sc₁ g (record { mark = mark; steps = m.steps }) t count
+      pub rest_headed : Headed l sc₁ g (metered_at m mark) t count
       rest_headed = headed_after l sc m p mark sc₁ due wrote_first g t count h came_to.more came_to.pass
 
       pub rest_below : p.row < g.nlib + mark
-      rest_below = done.near.below p mark e
+      rest_below = done.near.below p mark refl
 
       -- the arguments are those that t had, and as many rows may stand
-      same_rest : (from : ℕ) → join_in (g.nlib + length sc₁ / 9) (store_of l sc₁ mark) (ptr_of p) (drop from (args_of (store_of l sc₁ mark) (ptr_of t))) ≡
+      same_rest : (from : ℕ) →
+          join_in (g.nlib + length sc₁ / 9) (store_of l sc₁ mark) (ptr_of p) (drop from (args_of (store_of l sc₁ mark) (ptr_of t))) ≡
           join_in most (store_of l sc₁ mark) (ptr_of p) (drop from (args_of s (ptr_of t)))
       same_rest from = λ i.
           join_in (g.nlib + wrote_first.same_length i / 9) (store_of l sc₁ mark) (ptr_of p)
           (drop from (args_later (pass_formed h.used.pass) (pass_formed came_to.pass) came_to.more (scope_good h.scope) i))
 
       pub rest_left : m.steps < g.steps → (from : ℕ) (a : Answer) (sc₂ : List ℕ) →
-          Left l sc₁ (record { mark = mark; steps = m.steps }) a sc₂
-          (out_step (limits_in g sc₁) m.steps (join_in (g.nlib + length sc₁ / 9) (store_of l sc₁ mark) (ptr_of p) (drop from (args_of (store_of l sc₁ mark) (ptr_of t))))) →
-          Left l sc m a sc₂ (fire_in (limits_in g sc) (tally_of l sc m) (opened (ptr_of body) (ptr_of value) by) (drop from (args_of s (ptr_of t))))
+          Left l sc₁ (metered_at m mark) a sc₂
+          (out_step (limits_in g sc₁) m.steps
+          (join_in (g.nlib + length sc₁ / 9) (store_of l sc₁ mark) (ptr_of p) (drop from (args_of (store_of l sc₁ mark) (ptr_of t))))) →
+          Left l sc m a sc₂
+          (fire_in (limits_in g sc) (tally_of l sc m) (opened (ptr_of body) (ptr_of value) by) (drop from (args_of s (ptr_of t))))
       rest_left n from a sc₂ k =
           left_after l sc m p mark sc₁ due wrote_first m.steps
-          (left_as (ap (out_step (limits_in g sc) m.steps) (same_rest from) ∙ fires_from n (course.wrote (got (store_of l sc₁ mark) (ptr_of p))) wrote_first.says (drop from (args_of s (ptr_of t)))) k)
+          (left_as
+          (ap (out_step (limits_in g sc) m.steps) (same_rest from)
+          ∙ fires_from n (course.wrote (got (store_of l sc₁ mark) (ptr_of p))) wrote_first.says (drop from (args_of s (ptr_of t)))) k)

@@ -5,7 +5,7 @@ use native.Mathlib.Nat.{le_refl}
 use native.Mathlib.Numerals.{add-one}
 use native.Mathlib.Omega.{arith}
 use mathlib.Core.Path.{◌≡◌, refl, sym, ap, ◌∙◌, subst}
-use mathlib.Core.Bool.{Bool}
+use mathlib.Core.Bool.{Bool, true, false}
 use mathlib.Core.List.{List, []}
 use mathlib.Core.Option.{Option, none, some}
 use borrow.Author.Tests.{eq-eqb, ne_eqb}
@@ -23,19 +23,18 @@ use Rattle.rows.specs.Words.{ite, ptr_of, store_of, whole, Stands, Held}
 use Rattle.rows.specs.Writes.{Grown}
 use Rattle.rows.proofs.Store.{used_stands, up_used}
 use Rattle.tables.specs.declared.Decl.{Decl}
-use Rattle.tables.specs.declared.ValueFound.{ValueFound}
-use Rattle.tables.specs.declared.ValueFound.TheVariants as value_variants
 use Rattle.tables.specs.Env.{env_of}
 use Rattle.tables.specs.Read.{found_value, ValueOf}
 use Rattle.state.specs.declared.Meter.{Meter}
-use Rattle.state.specs.declared.Answer.{Answer}
-use Rattle.state.specs.declared.Answer.TheVariants as answer
+use Rattle.state.specs.State.{Answer}
 use Rattle.state.specs.State.{tally_of, Left}
 use Rattle.firing.proofs.Ends.{left_as}
 use Rattle.firing.specs.Fires.{unfold_step, raised, context_value, HasContext, unfolds_to}
+use Rattle.std.specs.Prelude.{None, Ok, Option as Maybe, Some}
+use Rattle.state.specs.declared.Tried.TheVariants.{Final}
 
 -- no rule: nothing is written
-pub final_left : {l sc : List ℕ} {m : Meter} {step : Step} → 9 * m.mark ≤ length sc → final (tally_of l sc m) ≡ step → Left l sc m (answer.Final m) sc step
+pub final_left : {l sc : List ℕ} {m : Meter} {step : Step} → 9 * m.mark ≤ length sc → final (tally_of l sc m) ≡ step → Left l sc m (Ok (Final m)) sc step
 final_left {l} {sc} {m} room e = record {
   says = e;
   kept = refl;
@@ -45,7 +44,7 @@ final_left {l} {sc} {m} room e = record {
 
 -- a value or none, and what the code answered
 pub none_unfolds : {l sc : List ℕ} {m : Meter} (lim : Limits) (o : Option rules.Ptr) (xs : List rules.Ptr) → 9 * m.mark ≤ length sc → none ≡ o →
-    Left l sc m (answer.Final m) sc (unfold_step lim (tally_of l sc m) o xs)
+    Left l sc m (Ok (Final m)) sc (unfold_step lim (tally_of l sc m) o xs)
 none_unfolds {l} {sc} {m} lim o xs room e = final_left room (ap (λ (x : Option rules.Ptr). unfold_step lim (tally_of l sc m) x xs) e)
 
 pub it_unfolds : {l sc : List ℕ} {m : Meter} {r : Answer} {sc' : List ℕ} (lim : Limits) (o : Option rules.Ptr) (v : rules.Ptr) (xs : List rules.Ptr) → some v ≡ o →
@@ -54,24 +53,25 @@ it_unfolds {l} {sc} {m} lim o v xs e k = left_as (ap (λ (x : Option rules.Ptr).
 
 -- A DEFINITION
 module _ (d : Decl) (n : ℕ) where
-  pub no_value : d.valued ≡ 0 → none ≡ unfolds_to d n
-  no_value e = sym (ap (λ (b : Bool). ite b none (ite (eqb d.levels n) (some (ptr_of d.value)) none)) (eq-eqb d.valued 0 e))
+  pub no_value : d.value ≡ None → none ≡ unfolds_to d n
+  no_value e = sym (ap (λ (v : Maybe Ptr). ite (eqb d.levels n) (found_value v) none) e ∙ either (eqb d.levels n))
+    where
+      either : (b : Bool) → ◌≡◌ {A = Option rules.Ptr} (ite b none none) none
+      either true = refl
+      either false = refl
 
-  valued : (d.valued ≡ 0 → ⊥) → unfolds_to d n ≡ ite (eqb d.levels n) (some (ptr_of d.value)) none
-  valued f = ap (λ (b : Bool). ite b none (ite (eqb d.levels n) (some (ptr_of d.value)) none)) (ne_eqb d.valued 0 f)
+  pub other_levels : (d.levels ≡ n → ⊥) → none ≡ unfolds_to d n
+  other_levels h = sym (ap (λ (b : Bool). ite b (found_value d.value) none) (ne_eqb d.levels n h))
 
-  pub other_levels : (d.valued ≡ 0 → ⊥) → (d.levels ≡ n → ⊥) → none ≡ unfolds_to d n
-  other_levels f h = sym (valued f ∙ ap (λ (b : Bool). ite b (some (ptr_of d.value)) none) (ne_eqb d.levels n h))
-
-  pub the_value : (d.valued ≡ 0 → ⊥) → d.levels ≡ n → some (ptr_of d.value) ≡ unfolds_to d n
-  the_value f e = sym (valued f ∙ ap (λ (b : Bool). ite b (some (ptr_of d.value)) none) (eq-eqb d.levels n e))
+  pub the_value : {v : Ptr} → d.value ≡ Some v → d.levels ≡ n → some (ptr_of v) ≡ unfolds_to d n
+  the_value e q = sym (ap (λ (b : Bool). ite b (found_value d.value) none) (eq-eqb d.levels n q) ∙ ap found_value e)
 
 -- A CONTEXT VALUE
-module _ (cs : List ℕ) (depth i : ℕ) (r : ValueFound) (found : ValueOf cs depth i (found_value r)) where
-  pub no_context_value : (s : Store) → r ≡ value_variants.NoValue → none ≡ context_value cs depth s i
+module _ (cs : List ℕ) (depth i : ℕ) (r : (Maybe Ptr)) (found : ValueOf cs depth i (found_value r)) where
+  pub no_context_value : (s : Store) → r ≡ None → none ≡ context_value cs depth s i
   no_context_value s e = ap (raised s (suc i)) (ap found_value (sym e) ∙ found.value [] [])
 
-  module _ (v : Ptr) (e : r ≡ value_variants.Found v) where
+  module _ (v : Ptr) (e : r ≡ Some v) where
     is_value : value_of (env_of [] [] cs depth) i ≡ some (ptr_of v)
     is_value = sym (found.value [] []) ∙ ap found_value e
 

@@ -2,8 +2,7 @@
 // 4 comes first, then each row in turn.
 #![tactic(auto)]
 
-ghost use Rattle.std.specs.Prelude.{◌≡◌, ◌+◌, ◌/◌, ◌<◌, ◌≤◌, ◌∷◌, length, drop};
-ghost use Rattle.std.proofs.Math.Option.{some};
+ghost use Rattle.std.specs.Prelude.{◌≡◌, ◌+◌, ◌/◌, ◌<◌, ◌≤◌, ◌∷◌, length, drop, IfSome};
 ghost use Rattle.rules.specs.Firings.{itself, opened};
 ghost use Rattle.course.specs.Charged.{join_in};
 ghost use Rattle.substitution.specs.Stores.{Good};
@@ -14,10 +13,11 @@ ghost use Rattle.state.specs.State.{tally_of, limits_in, Headed, Left};
 ghost use Rattle.firing.specs.Fires.{Opens, unfold_step, context_value, HasContext, unfolds_to};
 
 use replace::{Sub, replace};
-use rows::{Out, Ptr, shift_up};
+use rows::refusals::Refusal;
+use rows::{Ptr, shift_up};
 use spine::{apply, apply_one};
-use state::{Answer, Given, Meter};
-use tables::{Decl, ValueFound, value_of};
+use state::{Answer, Given, Meter, Tried};
+use tables::{Decl, value_of};
 
 // The end of a firing whose step is there: the arguments of t from `from` on are applied to f.
 fn apply_rest(
@@ -36,16 +36,8 @@ fn apply_rest(
         m.steps (join_in (g.nlib + length scratch.old / 9) (store_of library.now scratch.old m.mark) (ptr_of f)
         (drop from (args_of (store_of library.now scratch.old m.mark) (ptr_of t))))) }
 {
-    match apply(library, scratch, g.nlib, m.mark, f, t, count, from, count) {
-        Out::Done(p, mark) => Answer::Term(
-            p,
-            Meter {
-                mark,
-                steps: m.steps + 1,
-            },
-        ),
-        Out::Refused(k) => Answer::Refused(k),
-    }
+    let (p, mark) = apply(library, scratch, g.nlib, m.mark, f, t, count, from, count)?;
+    Ok(Tried::Term(p, m.stepped(mark)))
 }
 
 // A pointer that stands already, applied to the arguments of t from `from` on.
@@ -66,7 +58,7 @@ pub fn give(
         (args_of (store_of library.now scratch.old m.mark) (ptr_of t)))) }
 {
     if g.steps <= m.steps {
-        return Answer::Refused(4);
+        return Err(Refusal::NoStep);
     }
     apply_rest(library, scratch, g, m, f, t, count, from)
 }
@@ -92,23 +84,14 @@ pub fn open(
         (args_of (store_of library.now scratch.old m.mark) (ptr_of t)))) }
 {
     if g.steps <= m.steps {
-        return Answer::Refused(4);
+        return Err(Refusal::NoStep);
     }
     let x = Sub {
-        value,
-        count: 1,
+        value: Some(value),
         by,
     };
-    match replace(library, scratch, g.nlib, m.mark, body, 0, x) {
-        Out::Done(p, mark) => {
-            let at = Meter {
-                mark,
-                steps: m.steps,
-            };
-            apply_rest(library, scratch, g, at, p, t, count, from)
-        }
-        Out::Refused(k) => Answer::Refused(k),
-    }
+    let (p, mark) = replace(library, scratch, g.nlib, m.mark, body, 0, x)?;
+    apply_rest(library, scratch, g, m.at(mark), p, t, count, from)
 }
 
 // A pointer that stands already, applied to a and then to the arguments of t from `from` on: quotients.
@@ -131,18 +114,10 @@ pub fn give_with(
         (args_of (store_of library.now scratch.old m.mark) (ptr_of t)))) }
 {
     if g.steps <= m.steps {
-        return Answer::Refused(4);
+        return Err(Refusal::NoStep);
     }
-    match apply_one(library, scratch, g.nlib, m.mark, f, a) {
-        Out::Done(p, mark) => {
-            let at = Meter {
-                mark,
-                steps: m.steps,
-            };
-            apply_rest(library, scratch, g, at, p, t, count, from)
-        }
-        Out::Refused(k) => Answer::Refused(k),
-    }
+    let (p, mark) = apply_one(library, scratch, g.nlib, m.mark, f, a)?;
+    apply_rest(library, scratch, g, m.at(mark), p, t, count, from)
 }
 
 // A variable with a context value: the value shifted i + 1.
@@ -163,11 +138,10 @@ pub fn variable(
         (store_of library.now scratch.old m.mark) i) (args_of (store_of library.now scratch.old
         m.mark) (ptr_of t))) }
 {
-    let found = value_of(context, g.depth, i);
-    let ValueFound::Found(v) = found else {
-        return Answer::Final(m);
+    let Some(v) = value_of(context, g.depth, i) else {
+        return Ok(Tried::Final(m));
     };
-    let f = shift_up(library, &scratch[..], v, i + 1);
+    let f = shift_up(library, scratch, v, i + 1);
     give(library, scratch, g, m, f, t, count, 0)
 }
 
@@ -183,17 +157,16 @@ pub fn unfold_def(
     count: u32,
 ) -> Answer
     requires headed { Headed library.now scratch.old g m t count }
-    requires row_bound { (d.valued ≡ 0 → ⊥) → d.value.row < g.nlib + m.mark }
+    requires row_bound { IfSome d.value (λ v. v.row < g.nlib + m.mark) }
     ensures { Left library.now scratch.old m result scratch.new (unfold_step (limits_in g scratch.old)
         (tally_of library.now scratch.old m) (unfolds_to d levels) (args_of
         (store_of library.now scratch.old m.mark) (ptr_of t))) }
 {
-    if d.valued == 0 {
-        return Answer::Final(m);
-    }
+    let Some(v) = d.value else {
+        return Ok(Tried::Final(m));
+    };
     if d.levels != levels {
-        return Answer::Final(m);
+        return Ok(Tried::Final(m));
     }
-    let v = d.value;
     give(library, scratch, g, m, v, t, count, 0)
 }

@@ -1,6 +1,6 @@
 -- A firing as the code ends it: 4 first, then the number, then the rows. Rows written where the step is there are the firing's answer.
 -- Assumes nothing.
-use Prim.Native.Nat.{ℕ, ◌+◌, ◌≤◌, ◌<◌}
+use Prim.Native.Nat.{ℕ, ◌≤◌, ◌<◌}
 use native.Mathlib.Omega.{arith}
 use native.Mathlib.Numerals.{add-one}
 use mathlib.Core.Path.{◌≡◌, refl, ap, ◌∙◌, subst}
@@ -17,14 +17,15 @@ use Rattle.course.specs.Charged as course
 use Rattle.course.specs.Charged.{and_on, put_in, join_in, give_in, due_in}
 use Rattle.ways.specs.Steps as ways
 use Rattle.ways.specs.Steps.{stopped, out_step, fire_in_on, fire_in}
-use Rattle.rows.specs.declared.Out.{Out}
-use Rattle.rows.specs.declared.Out.TheVariants.{Done, Refused}
+use Rattle.rows.specs.Refusals.{Out}
 use Rattle.rows.specs.Words.{ptr_of, store_of}
 use Rattle.rows.specs.Writes.{Grown, Wrote}
 use Rattle.state.specs.declared.Meter.{Meter}
-use Rattle.state.specs.declared.Answer.TheVariants as answer
-use Rattle.state.specs.State.{Left}
+use Rattle.state.specs.State.{one_step, Left}
 use Rattle.majors.specs.Majors.{answered}
+use Rattle.std.specs.Prelude.{Err, Ok}
+use Rattle.rows.specs.Refusals.{number_of}
+use Rattle.rows.specs.declared.refusals.Refusal.{Refusal}
 
 -- 4, 7, THEN THE ROWS
 
@@ -92,13 +93,13 @@ none_some {A} {x} q = let z : ◌≡◌ {A = ℕ} 0 1 = cc in omega arith
 
 pub fired_left : (l sc : List ℕ) (lim : Limits) (m : Meter) (out : Out) (sc' : List ℕ) (o : course.Out) → Wrote l sc m.mark out sc' o →
     Left l sc m (answered m out) sc' (out_step lim m.steps o)
-fired_left l sc lim m (Done p mark) sc' o w = record {
+fired_left l sc lim m (Ok (p, mark)) sc' o w = record {
   says = ap (λ (n : ℕ). ways.fired (tally n (store_of l sc' mark)) (ptr_of p)) (add-one m.steps) ∙ ap (out_step lim m.steps) w.says;
   kept = w.kept;
   same_length = w.same_length;
-  grown = λ m' q. subst (λ (n : ℕ). Grown sc m.mark sc' n) (let z : some (record { mark = mark; steps = m.steps + 1 }) ≡ some m' = q in cc) (w.grown p mark refl);
+  grown = λ m' q. subst (λ (n : ℕ). Grown sc m.mark sc' n) (let z : some (one_step m mark) ≡ some m' = q in cc) (w.grown p mark refl);
 }
-fired_left l sc lim m (Refused k) sc' o w = record {
+fired_left l sc lim m (Err k) sc' o w = record {
   says = ap (out_step lim m.steps) w.says;
   kept = w.kept;
   same_length = w.same_length;
@@ -106,5 +107,5 @@ fired_left l sc lim m (Refused k) sc' o w = record {
 }
 
 -- a refusal before any row
-pub stopped_left : (l sc : List ℕ) (m : Meter) (k : ℕ) → Left l sc m (answer.Refused k) sc (stopped k)
+pub stopped_left : (l sc : List ℕ) (m : Meter) (k : Refusal) → Left l sc m (Err k) sc (stopped (number_of k))
 stopped_left l sc m k = record { says = refl; kept = refl; same_length = refl; grown = λ m' q. absurd (none_some q) }

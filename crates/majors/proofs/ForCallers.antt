@@ -12,15 +12,15 @@ use Rattle.rules.specs.Firings.{Result}
 use Rattle.rules.specs.HeadTests as heads
 use Rattle.rules.specs.HeadTests.{before_indices, major_position, outcome, by_rule}
 use Rattle.ways.specs.Steps.{fire_in}
-use Rattle.arith.specs.declared.Outcome.{Outcome}
-use Rattle.arith.specs.Meaning.{meaning, settled}
+use Rattle.arith.specs.Meaning.{Outcome, meaning, settled}
 use Rattle.state.specs.declared.Given.{Given}
 use Rattle.state.specs.declared.Meter.{Meter}
-use Rattle.state.specs.declared.Answer.{Answer}
+use Rattle.state.specs.State.{Answer}
 use Rattle.state.specs.State.{tally_of, limits_in, Left}
-use Rattle.tables.specs.Read as tables
+use Rattle.tables.specs.declared.Holders.{Holders}
+use Rattle.tables.specs.Read.{HoldersOf}
 use Rattle.tables.specs.Env.{env_of}
-use Rattle.majors.specs.Majors.{held_by, Agrees, OutcomeLeft, ruled_by}
+use Rattle.majors.specs.Majors.{Agrees, OutcomeLeft, ruled_by}
 
 pub outcome_left : {l sc : List ℕ} {g : Given} {m : Meter} {o : Outcome} {r : Answer} {sc' : List ℕ} → OutcomeLeft l sc g m o r sc' →
     (e : Env) → Agrees e g.holders → (c : Computed) → meaning o ≡ settled c → (r' : Result) → outcome e c ≡ some r' →
@@ -39,6 +39,5 @@ unfolding by_rule
 ruled_is o a xs = refl
 
 -- the environment that the words stand for agrees with the holders that were read from them
-pub holders_agree : (ds rs cs hs : List ℕ) (depth : ℕ) → tables.HoldersOf ds hs → Agrees (env_of ds rs cs depth) hs
-unfolding held_by tables.held_by
-holders_agree ds rs cs hs depth h = record { holds = λ ρ low. sym (h.holds rs cs depth ρ low) }
+pub holders_agree : (ds rs cs : List ℕ) (hs : Holders) (depth : ℕ) → HoldersOf ds hs → Agrees (env_of ds rs cs depth) hs
+holders_agree ds rs cs hs depth h = record { holds = λ role. sym (h.holds rs cs depth role) }

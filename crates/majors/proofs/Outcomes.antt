@@ -6,49 +6,40 @@ use native.Mathlib.Omega.{arith}
 use mathlib.Core.Path.{◌≡◌, refl, sym, ap, ◌∙◌}
 use mathlib.Core.Bool.{Bool, true, false}
 use mathlib.Core.List.{List, []}
-use mathlib.Core.Option.{Option, none, some}
+use mathlib.Core.Option.{Option, some}
 use borrow.Author.Tests.{leb-true, leb-false}
-use lib.Dec.{eqb, leb}
-use lib.ListN.{length, get_or}
+use lib.Dec.{leb}
+use lib.ListN.{length}
 use Rattle.rules.specs.Maxima.{most_number}
 use Rattle.rules.specs.Kinds.{const, num}
 use Rattle.rules.specs.Rows.{leaf}
-use Rattle.rules.specs.Declarations.{true', false', Env, holder}
+use Rattle.rules.specs.Declarations.{Env}
 use Rattle.rules.specs.Arithmetic.{Computed, number, truth, words_value}
 use Rattle.rules.specs.Firings.{Tally, Result, a_number, a_constant}
 use Rattle.rules.specs.HeadTests.{given, outcome}
 use Rattle.rules.specs.Refusals.{Limits}
 use Rattle.course.specs.Charged.{put_in}
 use Rattle.ways.specs.Steps.{Step, stopped, out_step, fire_in}
-use Rattle.arith.specs.declared.Outcome.{Outcome}
-use Rattle.arith.specs.Meaning.{words, refusal, pick, meaning, settled}
+use Rattle.arith.specs.Meaning.{Outcome, words, refusal, pick, meaning, settled}
 use Rattle.arith.specs.Meaning as said
-use Rattle.rows.specs.declared.Out.{Out}
-use Rattle.rows.specs.Words.{ite, store_of}
+use Rattle.rows.specs.Refusals.{Out}
+use Rattle.rows.specs.Words.{store_of}
 use Rattle.rows.specs.Writes.{Wrote}
 use Rattle.state.specs.declared.Given.{Given}
 use Rattle.state.specs.declared.Meter.{Meter}
-use Rattle.state.specs.declared.Answer.{Answer}
-use Rattle.state.specs.declared.Answer.TheVariants as answer
+use Rattle.state.specs.State.{Answer}
 use Rattle.state.specs.State.{tally_of, limits_in, Left}
-use Rattle.majors.specs.Majors.{nobody, held_by, Agrees, answered, truth_code, OutcomeLeft}
+use Rattle.majors.specs.Majors.{Agrees, answered, truth_role, OutcomeLeft}
+use Rattle.tables.specs.declared.Holders.{Holders}
+use Rattle.tables.specs.declared.codes.Role.TheVariants.{True, False}
+use Rattle.tables.specs.Read.{found_number, holder_in}
 use Rattle.majors.proofs.Firing.{no_step, too_large_stops, number_due, constant_due, fired_left, stopped_left}
-
--- WHO HOLDS A ROLE
-
--- an entry that is held is the holder
-pub holder_is : (hs : List ℕ) (code : ℕ) {d : ℕ} → held_by hs code ≡ some d → get_or hs code 0 ≡ d
-unfolding held_by
-holder_is hs code {d} = go (eqb (get_or hs code 0) nobody)
-  where
-    go : (b : Bool) → ite b none (some (get_or hs code 0)) ≡ some d → get_or hs code 0 ≡ d
-    go true q = cc
-    go false q = cc
+use Rattle.std.specs.Prelude.{Err, Some}
+use Rattle.rows.specs.declared.refusals.Refusal.TheVariants.{NoStep, TooLarge}
 
 -- the constant of a role that is held
-held_constant : (x : Option ℕ) {r' : Result} → given x (λ c. some (a_constant c)) ≡ some r' → {d : ℕ} → ((c : ℕ) → x ≡ some c → d ≡ c) → a_constant d ≡ r'
-held_constant none q same = cc
-held_constant (some c) q same = let z = same c refl in cc
+held_constant : {x : Option ℕ} {d : ℕ} {r' : Result} → x ≡ some d → given x (λ c. some (a_constant c)) ≡ some r' → a_constant d ≡ r'
+held_constant {x} {d} {r'} e q = let z : some (a_constant d) ≡ some r' = rw e at q in cc
 
 -- NUMBERS
 
@@ -90,22 +81,22 @@ module _ (lim : Limits) (m : Tally) (step : m.steps < lim.steps) (e : Env) {r' :
       rw (← same, fits.0) (number_due lim m step n fits.1)
   number_step (truth b) q o = absurd (let z : ◌≡◌ {A = ℕ} 0 1 = cc in omega arith)
 
-  truth_step : (hs : List ℕ) → Agrees e hs → (c : Computed) {b : Bool} → said.truth b ≡ settled c → outcome e c ≡ some r' →
-      fire_in lim m r' [] ≡ out_step lim m.steps (put_in lim.rows m.store (leaf (const (get_or hs (truth_code b) 0) 0)))
+  truth_step : (hs : Holders) → Agrees e hs → (c : Computed) {b : Bool} {d : ℕ} → said.truth b ≡ settled c → holder_in hs (truth_role b) ≡ Some d →
+      outcome e c ≡ some r' → fire_in lim m r' [] ≡ out_step lim m.steps (put_in lim.rows m.store (leaf (const d 0)))
   unfolding settled outcome
-  truth_step hs agrees (number n) {b} q o = absurd (go (leb n (2 ^ 64 - 1)) q)
+  truth_step hs agrees (number n) {b} q held o = absurd (go (leb n (2 ^ 64 - 1)) q)
     where
       go : (f : Bool) → said.truth b ≡ pick f (words (n % 2 ^ 32) (n / 2 ^ 32)) (refusal 7) → ⊥
       go true q = let z : ◌≡◌ {A = ℕ} 0 1 = cc in omega arith
       go false q = let z : ◌≡◌ {A = ℕ} 0 1 = cc in omega arith
-  truth_step hs agrees (truth true) {b} q o =
+  truth_step hs agrees (truth true) {b} {d} q held o =
       let same : b ≡ true = cc in
-      let due = held_constant (holder e true') o (λ c h. holder_is hs 4 (sym (agrees.holds true' (omega arith)) ∙ h)) in
-      rw (← due, same) (constant_due lim m step (get_or hs 4 0))
-  truth_step hs agrees (truth false) {b} q o =
+      let due = held_constant (agrees.holds True ∙ ap found_number (rw same at held)) o in
+      rw (← due) (constant_due lim m step d)
+  truth_step hs agrees (truth false) {b} {d} q held o =
       let same : b ≡ false = cc in
-      let due = held_constant (holder e false') o (λ c h. holder_is hs 5 (sym (agrees.holds false' (omega arith)) ∙ h)) in
-      rw (← due, same) (constant_due lim m step (get_or hs 5 0))
+      let due = held_constant (agrees.holds False ∙ ap found_number (rw same at held)) o in
+      rw (← due) (constant_due lim m step d)
 
 -- THE FOUR WAYS OUT
 
@@ -120,21 +111,20 @@ module _ (l sc : List ℕ) (g : Given) (m : Meter) (o : Outcome) where
     grown = left.grown;
   }
 
-  pub out_of_steps : g.steps ≤ m.steps → OutcomeLeft l sc g m o (answer.Refused 4) sc
-  out_of_steps h = left_as (stopped_left l sc m 4) (λ e agrees c q r' i. no_step (limits_in g sc) (tally_of l sc m) [] r' h)
+  pub out_of_steps : g.steps ≤ m.steps → OutcomeLeft l sc g m o (Err NoStep) sc
+  out_of_steps h = left_as (stopped_left l sc m NoStep) (λ e agrees c q r' i. no_step (limits_in g sc) (tally_of l sc m) [] r' h)
 
   module _ (step : m.steps < g.steps) where
-    pub over_two_words : meaning o ≡ refusal 7 → OutcomeLeft l sc g m o (answer.Refused 7) sc
-    over_two_words is = left_as (stopped_left l sc m 7) (λ e agrees c q r' i. too_large_step (limits_in g sc) (tally_of l sc m) step e c (sym is ∙ q) i)
+    pub over_two_words : meaning o ≡ refusal 7 → OutcomeLeft l sc g m o (Err TooLarge) sc
+    over_two_words is = left_as (stopped_left l sc m TooLarge) (λ e agrees c q r' i. too_large_step (limits_in g sc) (tally_of l sc m) step e c (sym is ∙ q) i)
 
     pub number_left : (low high : ℕ) → meaning o ≡ words low high → (out : Out) (sc' : List ℕ) →
         Wrote l sc m.mark out sc' (put_in (g.nlib + length sc / 9) (store_of l sc m.mark) (leaf (num (words_value low high)))) → OutcomeLeft l sc g m o (answered m out) sc'
     number_left low high is out sc' w =
         left_as (fired_left l sc (limits_in g sc) m out sc' _ w) (λ e agrees c q r' i. number_step (limits_in g sc) (tally_of l sc m) step e c (sym is ∙ q) i)
 
-    pub truth_left : (b : Bool) → meaning o ≡ said.truth b → (out : Out) (sc' : List ℕ) (d : ℕ) → d ≡ get_or g.holders (truth_code b) 0 →
+    pub truth_left : (b : Bool) → meaning o ≡ said.truth b → (out : Out) (sc' : List ℕ) (d : ℕ) → holder_in g.holders (truth_role b) ≡ Some d →
         Wrote l sc m.mark out sc' (put_in (g.nlib + length sc / 9) (store_of l sc m.mark) (leaf (const d 0))) → OutcomeLeft l sc g m o (answered m out) sc'
     truth_left b is out sc' d holds w =
         left_as (fired_left l sc (limits_in g sc) m out sc' _ w)
-        (λ e agrees c q r' i. truth_step (limits_in g sc) (tally_of l sc m) step e g.holders agrees c (sym is ∙ q) i
-        ∙ ap (λ (n : ℕ). out_step (limits_in g sc) m.steps (put_in (g.nlib + length sc / 9) (store_of l sc m.mark) (leaf (const n 0)))) (sym holds))
+        (λ e agrees c q r' i. truth_step (limits_in g sc) (tally_of l sc m) step e g.holders agrees c (sym is ∙ q) holds i)

@@ -22,22 +22,22 @@ use Rattle.substitution.specs.Stores.{Good}
 use Rattle.ways.specs.Steps.{Step, final, out_step, fire_in}
 use Rattle.ways.specs.Spines.{args_of}
 use Rattle.tables.specs.declared.Rule.{Rule}
-use Rattle.tables.specs.declared.RuleFound.{RuleFound}
-use Rattle.tables.specs.declared.RuleFound.TheVariants.{Found, NoRule}
 use Rattle.tables.specs.Records.{records_from}
 use Rattle.tables.specs.Env.{rule_of}
 use Rattle.tables.specs.Read.{as_rule, found_rule}
 use Rattle.rows.specs.declared.Ptr.{Ptr}
-use Rattle.rows.specs.declared.Out.{Out}
+use Rattle.rows.specs.Refusals.{Out}
 use Rattle.rows.specs.Words.{ptr_of, store_of}
 use Rattle.rows.specs.Writes.{Grown, Wrote}
-use Rattle.spine.specs.declared.Spined.{Spined}
+use Rattle.majors.specs.declared.Made.{Made}
 use Rattle.state.specs.declared.Given.{Given}
 use Rattle.state.specs.declared.Meter.{Meter}
-use Rattle.state.specs.declared.Answer.TheVariants as answer
 use Rattle.state.specs.State.{tally_of, limits_in, Left}
 use Rattle.majors.specs.Majors.{answered, three_runs, RunsApply, ruled_by, ruled_step, MayRule}
 use Rattle.majors.proofs.Firing.{no_step, itself_due, fired_left, stopped_left}
+use Rattle.std.specs.Prelude.{Err, None, Ok, Option as Maybe, Some}
+use Rattle.state.specs.declared.Tried.TheVariants.{Final}
+use Rattle.rows.specs.declared.refusals.Refusal.TheVariants.{NoStep}
 
 -- the rule that was found is one of the list
 rule_among : {P : declarations.Rule → Type 0} {ρ : declarations.Rule} (c : ℕ) (rs : List declarations.Rule) →
@@ -70,7 +70,7 @@ module _ (rs : List declarations.Rule) (c : ℕ) (ys : List rules.Ptr) (before p
     counts h = ap of_rule (sym found) ∙ ap (λ (b : Bool). of_fields ρ (provided b (some (drop (length ys - ρ.fields) ys)))) (le-leb _ _ h)
 
 -- nothing is written, and no rule fires
-final_left : (l sc : List ℕ) (m : Meter) → 9 * m.mark ≤ length sc → Left l sc m (answer.Final m) sc (final (tally_of l sc m))
+final_left : (l sc : List ℕ) (m : Meter) → 9 * m.mark ≤ length sc → Left l sc m (Ok (Final m)) sc (final (tally_of l sc m))
 final_left l sc m room = record {
   says = refl;
   kept = refl;
@@ -81,8 +81,11 @@ final_left l sc m room = record {
 
 -- THE WAYS OUT
 
-module _ (l rs sc : List ℕ) (g : Given) (m : Meter) (first many c : ℕ) (made : Ptr) (sp : Spined) (t : Ptr) (count before position : ℕ)
-    (may : MayRule l rs sc g m first many made sp t count before position) where
+module _ (l rs sc : List ℕ) (g : Given) (m : Meter) (first many : ℕ) (made : Made) (t : Ptr) (count before position : ℕ)
+    (may : MayRule l rs sc g m first many made t count before position) where
+  abbrev c : ℕ
+  c = made.constructor
+
   abbrev s : Store
   s = store_of l sc m.mark
 
@@ -99,7 +102,7 @@ module _ (l rs sc : List ℕ) (g : Given) (m : Meter) (first many c : ℕ) (made
   xs = args_of s (ptr_of t)
 
   abbrev ys : List rules.Ptr
-  ys = args_of s (ptr_of made)
+  ys = args_of s (ptr_of made.term)
 
   abbrev step : Step
   step = ruled_step lim now (ruled_by all_rules c ys before position xs)
@@ -107,28 +110,28 @@ module _ (l rs sc : List ℕ) (g : Given) (m : Meter) (first many c : ℕ) (made
   room : 9 * m.mark ≤ length sc
   room = may.headed.used.held.room
 
-  left_final : ruled_by all_rules c ys before position xs ≡ none → Left l sc m (answer.Final m) sc step
-  left_final q = subst (Left l sc m (answer.Final m) sc) (ap (ruled_step lim now) (sym q)) (final_left l sc m room)
+  left_final : ruled_by all_rules c ys before position xs ≡ none → Left l sc m (Ok (Final m)) sc step
+  left_final q = subst (Left l sc m (Ok (Final m)) sc) (ap (ruled_step lim now) (sym q)) (final_left l sc m room)
 
-  module _ (r : RuleFound) (answered_rule : found_rule r ≡ rule_for c all_rules) where
-    pub no_rule_left : r ≡ NoRule → Left l sc m (answer.Final m) sc step
+  module _ (r : Maybe Rule) (answered_rule : found_rule r ≡ rule_for c all_rules) where
+    pub no_rule_left : r ≡ None → Left l sc m (Ok (Final m)) sc step
     no_rule_left q = left_final (no_rule_for all_rules c ys before position xs (sym (ap found_rule q) ∙ answered_rule))
 
-    module _ (ρ : Rule) (is : r ≡ Found ρ) where
+    module _ (ρ : Rule) (is : r ≡ Some ρ) where
       found : some (as_rule ρ) ≡ rule_for c all_rules
       found = sym (ap found_rule is) ∙ answered_rule
 
-      pub few_left : sp.count < ρ.fields → Left l sc m (answer.Final m) sc step
+      pub few_left : made.spine.count < ρ.fields → Left l sc m (Ok (Final m)) sc step
       few_left h = left_final (too_few all_rules c ys before position xs (as_rule ρ) found (omega (arith, may.counted)))
 
-      module _ (enough : ρ.fields ≤ sp.count) where
+      module _ (enough : ρ.fields ≤ made.spine.count) where
         fires : step ≡ fire_in lim now (itself (ptr_of ρ.value)) (three_runs xs before (suc position) ys ρ.fields)
         fires = ap (ruled_step lim now) (counts all_rules c ys before position xs (as_rule ρ) found (omega (arith, may.counted)))
 
-        pub no_step_left : g.steps ≤ m.steps → Left l sc m (answer.Refused 4) sc step
-        no_step_left h = subst (Left l sc m (answer.Refused 4) sc) (sym (fires ∙ no_step lim now _ _ h)) (stopped_left l sc m 4)
+        pub no_step_left : g.steps ≤ m.steps → Left l sc m (Err NoStep) sc step
+        no_step_left h = subst (Left l sc m (Err NoStep) sc) (sym (fires ∙ no_step lim now _ _ h)) (stopped_left l sc m NoStep)
 
-        pub may_apply : RunsApply l sc g.nlib m.mark ρ.value t count before (position + 1) made sp.count ρ.fields
+        pub may_apply : RunsApply l sc g.nlib m.mark ρ.value t count before (position + 1) made.term made.spine.count ρ.fields
         may_apply = record {
           depth = g.depth;
           small = may.headed.small;

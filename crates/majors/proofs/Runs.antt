@@ -18,8 +18,7 @@ use Rattle.ways.specs.Spines as ways
 use Rattle.ways.specs.Spines.{args_of, args_later, AllScope}
 use Rattle.ways.specs.Stages.{Stage, all_later, join_stage}
 use Rattle.rows.specs.declared.Ptr.{Ptr}
-use Rattle.rows.specs.declared.Out.{Out}
-use Rattle.rows.specs.declared.Out.TheVariants.{Done, Refused}
+use Rattle.rows.specs.Refusals.{Out}
 use Rattle.rows.specs.Words.{ptr_of, store_of, Held}
 use Rattle.rows.specs.Writes.{Wrote}
 use Rattle.rows.proofs.Store.{held_length}
@@ -29,6 +28,8 @@ use Rattle.spine.proofs.Applying.{join_append}
 use Rattle.spine.proofs.ForCallers.{arguments_in_scope}
 use Rattle.majors.specs.Majors.{RunsApply, three_runs}
 use Rattle.majors.proofs.Turns.{then_refused, then_done}
+use Rattle.std.specs.Prelude.{Err, Ok}
+use Rattle.rows.specs.declared.refusals.Refusal.{Refusal}
 
 -- LISTS OF GOOD POINTERS
 
@@ -127,7 +128,7 @@ module _ (l sc : List ℕ) (nlib m : ℕ) (rule t : Ptr) (count before after : �
       rest_is from = run_is from n ∙ ap (join_in most s₁ (ptr_of p)) (run_rest from n (args_of s (ptr_of u)) counted)
 
     pub reached_next : (zs : List rules.Ptr) → AllGood s zs → {q : Ptr} {m₂ : ℕ} {sc₂ : List ℕ} →
-        Wrote l sc₁ m₁ (Done q m₂) sc₂ (join_in most s₁ (ptr_of p) zs) → Reached sc₂ m₂ q
+        Wrote l sc₁ m₁ (Ok (q, m₂)) sc₂ (join_in most s₁ (ptr_of p) zs) → Reached sc₂ m₂ q
     reached_next zs good {q} {m₂} {sc₂} w =
         let next = join_stage most zs k.stage.pass k.stage.good (all_later k.stage.more good) (sym w.says) in
         record {
@@ -165,13 +166,14 @@ module _ (l sc : List ℕ) (nlib m : ℕ) (rule t : Ptr) (count before after : �
   pub may_begin : Applies l sc nlib m rule t count 0 before
   may_begin = may_run sc m rule begun t count given.scope given.counted 0 before (omega arith) given.before_inside
 
-  pub refused_first : {out : Out} {sc₁ : List ℕ} (n : ℕ) → out ≡ Refused n → Wrote l sc m out sc₁ (run_in most s (ptr_of rule) (ptr_of t) 0 before) → Wrote l sc m out sc₁ result
-  refused_first n e w = in_turn (then_refused l sc m (then_joins most last_fields rest) n e (first_run w))
+  pub refused_first : {sc₁ : List ℕ} {n : Refusal} → Wrote l sc m (Err n) sc₁ (run_in most s (ptr_of rule) (ptr_of t) 0 before) →
+      Wrote l sc m (Err n) sc₁ result
+  refused_first w = in_turn (then_refused l sc m (then_joins most last_fields rest) (first_run w))
 
   -- the first call was done
-  module _ (o₁ : Out) (p : Ptr) (m₁ : ℕ) (is_done : o₁ ≡ Done p m₁) (sc₁ : List ℕ) (called : Wrote l sc m o₁ sc₁ (run_in most s (ptr_of rule) (ptr_of t) 0 before)) where
-    first : Wrote l sc m (Done p m₁) sc₁ (join_in most s (ptr_of rule) first_fields)
-    first = subst (λ (o : Out). Wrote l sc m o sc₁ (join_in most s (ptr_of rule) first_fields)) is_done (first_run called)
+  module _ {p : Ptr} {m₁ : ℕ} {sc₁ : List ℕ} (called : Wrote l sc m (Ok (p, m₁)) sc₁ (run_in most s (ptr_of rule) (ptr_of t) 0 before)) where
+    first : Wrote l sc m (Ok (p, m₁)) sc₁ (join_in most s (ptr_of rule) first_fields)
+    first = first_run called
 
     abbrev second_call : course.Out
     second_call = run_in (nlib + length sc₁ / 9) (store_of l sc₁ m₁) (ptr_of p) (ptr_of made) (arity - fields) arity
@@ -188,13 +190,13 @@ module _ (l sc : List ℕ) (nlib m : ℕ) (rule t : Ptr) (count before after : �
         (rest_is sc₁ m₁ p after_first made arity given.made_scope given.made_counted (arity - fields)
         ∙ ap (λ (n : ℕ). join_in most (store_of l sc₁ m₁) (ptr_of p) (drop (n - fields) made_arguments)) (sym given.made_counted))
 
-    pub refused_second : {out : Out} {sc₂ : List ℕ} (n : ℕ) → out ≡ Refused n → Wrote l sc₁ m₁ out sc₂ second_call → Wrote l sc m out sc₂ result
-    refused_second n e w = in_turn (then_done l sc m (then_joins most last_fields rest) first (then_refused l sc₁ m₁ (then_join most rest) n e (second_run w)))
+    pub refused_second : {sc₂ : List ℕ} {n : Refusal} → Wrote l sc₁ m₁ (Err n) sc₂ second_call → Wrote l sc m (Err n) sc₂ result
+    refused_second w = in_turn (then_done l sc m (then_joins most last_fields rest) first (then_refused l sc₁ m₁ (then_join most rest) (second_run w)))
 
     -- the second call was done
-    module _ (o₂ : Out) (q : Ptr) (m₂ : ℕ) (was_done : o₂ ≡ Done q m₂) (sc₂ : List ℕ) (called_again : Wrote l sc₁ m₁ o₂ sc₂ second_call) where
-      second : Wrote l sc₁ m₁ (Done q m₂) sc₂ (join_in most (store_of l sc₁ m₁) (ptr_of p) last_fields)
-      second = subst (λ (o : Out). Wrote l sc₁ m₁ o sc₂ (join_in most (store_of l sc₁ m₁) (ptr_of p) last_fields)) was_done (second_run called_again)
+    module _ {q : Ptr} {m₂ : ℕ} {sc₂ : List ℕ} (called_again : Wrote l sc₁ m₁ (Ok (q, m₂)) sc₂ second_call) where
+      second : Wrote l sc₁ m₁ (Ok (q, m₂)) sc₂ (join_in most (store_of l sc₁ m₁) (ptr_of p) last_fields)
+      second = second_run called_again
 
       abbrev third_call : course.Out
       third_call = run_in (nlib + length sc₂ / 9) (store_of l sc₂ m₂) (ptr_of q) (ptr_of t) after count

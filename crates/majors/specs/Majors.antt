@@ -1,13 +1,13 @@
 -- What the functions on a reduced major are given and what they promise: a major as a number, as a constructor, arithmetic's outcome
 -- written, and a recursor's rule fired. Assumes nothing: these are definitions.
-use Rattle.std.specs.Prelude.{ℕ, suc, ◌+◌, ◌*◌, ◌-◌, ◌≤◌, ◌<◌, ◌≡◌, Bool, true, false, List, [], ◌++◌, eqb, length, get_or, take, drop}
+use Rattle.std.specs.Prelude.{ℕ, suc, ◌+◌, ◌*◌, ◌-◌, ◌≤◌, ◌<◌, ◌≡◌, Bool, true, false, List, [], ◌++◌, length, take, drop}
 use Rattle.std.proofs.Math.Option.{Option, none, some}
 use Rattle.rules.specs.Maxima.{most_bound, most_steps}
 use Rattle.rules.specs.Kinds.{const, num, app}
 use Rattle.rules.specs.Rows as rules
 use Rattle.rules.specs.Rows.{Row, Store, node, leaf, blank, row_at, grow}
 use Rattle.rules.specs.RowCheck.{InScope}
-use Rattle.rules.specs.Declarations.{Role, Rule, Env, nth, role_code, holder}
+use Rattle.rules.specs.Declarations.{Rule, Env, nth, holder}
 use Rattle.rules.specs.Arithmetic.{Computed}
 use Rattle.rules.specs.Firings.{Tally, Result, itself}
 use Rattle.rules.specs.HeadTests as heads
@@ -21,38 +21,34 @@ use Rattle.ways.specs.Steps.{Step, final, fire_in}
 use Rattle.ways.specs.Spines.{head_of, args_of}
 use Rattle.tables.specs.Records.{records_from}
 use Rattle.tables.specs.Env.{rule_of}
-use Rattle.arith.specs.declared.Outcome.{Outcome}
-use Rattle.arith.specs.declared.Outcome.TheVariants.{Truth}
-use Rattle.arith.specs.Meaning.{value_of, meaning, settled}
+use Rattle.tables.specs.declared.Holders.{Holders}
+use Rattle.tables.specs.declared.codes.Role.{Role}
+use Rattle.tables.specs.declared.codes.Role.TheVariants.{True, False}
+use Rattle.tables.specs.Codes.{role_as}
+use Rattle.tables.specs.Read.{found_number, holder_in}
+use Rattle.arith.specs.declared.Number.{Number}
+use Rattle.arith.specs.declared.Value.TheVariants.{Truth}
+use Rattle.arith.specs.Meaning.{Outcome, value_of, meaning, settled}
 use Rattle.rows.specs.declared.Ptr.{Ptr}
-use Rattle.rows.specs.declared.Out.{Out}
-use Rattle.rows.specs.declared.Out.TheVariants as out
-use Rattle.rows.specs.Words.{ite, ptr_of, store_of}
+use Rattle.rows.specs.Refusals.{Out}
+use Rattle.rows.specs.Words.{ptr_of, store_of}
 use Rattle.rows.specs.Writes.{Grown}
 use Rattle.spine.specs.declared.Spined.{Spined}
 use Rattle.state.specs.declared.Given.{Given}
 use Rattle.state.specs.declared.Meter.{Meter}
-use Rattle.state.specs.declared.Answer.{Answer}
-use Rattle.state.specs.declared.Answer.TheVariants as answer
-use Rattle.state.specs.State.{tally_of, limits_in, step_as, meter_of, Used, Headed}
-use Rattle.majors.specs.declared.NumberFound.{NumberFound}
-use Rattle.majors.specs.declared.NumberFound.TheVariants.{Found, NoNumber}
+use Rattle.state.specs.State.{Answer}
+use Rattle.state.specs.State.{metered_at, one_step, tally_of, limits_in, step_as, meter_of, Used, Headed}
 use Rattle.majors.specs.declared.Made.{Made}
-use Rattle.majors.specs.declared.Made.TheVariants.{As, Nothing, Refused}
+use Rattle.std.specs.Prelude.{Result as Answers, Err, None, Ok, Option as Maybe, Some}
+use Rattle.rows.specs.Refusals.{number_of}
+use Rattle.state.specs.declared.Tried.TheVariants.{Term}
+use Rattle.rows.specs.declared.refusals.Refusal.{Refusal}
 
 -- WHO HOLDS A ROLE
 
--- the number that no declaration has
-abbrev pub nobody : ℕ
-nobody = 4294967295
-
--- the table of holders at a role's code
-unfoldable pub held_by : List ℕ → ℕ → Option ℕ
-held_by hs code = ite (eqb (get_or hs code 0) nobody) none (some (get_or hs code 0))
-
 -- the code knows the table alone; a contract speaks of every environment that agrees with it
-pub record Agrees (e : Env) (hs : List ℕ) : Type 0 where
-  pub holds : (ρ : Role) → 1 ≤ role_code ρ → holder e ρ ≡ held_by hs (role_code ρ)
+pub record Agrees (e : Env) (hs : Holders) : Type 0 where
+  pub holds : (role : Role) → holder e (role_as role) ≡ found_number (holder_in hs role)
 
 -- THE MAJOR AS A NUMBER
 
@@ -60,12 +56,12 @@ pub record Agrees (e : Env) (hs : List ℕ) : Type 0 where
 abbrev pub head_row : Store → rules.Ptr → Row
 head_row s q = row_at s (head_of s q).row
 
-abbrev pub number_in : NumberFound → Option ℕ
-number_in (Found n) = some (value_of n)
-number_in NoNumber = none
+abbrev pub number_in : Maybe Number → Option ℕ
+number_in (Some n) = some (value_of n)
+number_in None = none
 
 -- whichever mark the rows are used up to
-pub record NumberAt (l sc : List ℕ) (q : Ptr) (r : NumberFound) : Type 0 where
+pub record NumberAt (l sc : List ℕ) (q : Ptr) (r : Maybe Number) : Type 0 where
   pub is : (nlib m d : ℕ) → Used l sc nlib m → InScope (store_of l sc m) d (ptr_of q) →
       number_in r ≡ as_number (head_row (store_of l sc m) (ptr_of q)) (args_of (store_of l sc m) (ptr_of q))
 
@@ -77,18 +73,18 @@ pub record MayFire (l sc : List ℕ) (g : Given) (m : Meter) : Type 0 where
   pub budget : g.steps ≤ most_steps
 
 -- a truth value is written only where true and false are held
-pub record TruthHeld (hs : List ℕ) (o : Outcome) : Type 0 where
-  pub both : (b : Bool) → o ≡ Truth b → (held_by hs 4 ≡ none → ⊥) × (held_by hs 5 ≡ none → ⊥)
+pub record TruthHeld (hs : Holders) (o : Outcome) : Type 0 where
+  pub both : (b : Bool) → o ≡ Ok (Truth b) → (holder_in hs True ≡ None → ⊥) × (holder_in hs False ≡ None → ⊥)
 
 -- rows written in a firing whose step is there
 abbrev pub answered : Meter → Out → Answer
-answered m (out.Done p mark) = answer.Term p (record { mark = mark; steps = m.steps + 1 })
-answered m (out.Refused k) = answer.Refused k
+answered m (Ok (p, mark)) = Ok (Term p (one_step m mark))
+answered m (Err k) = Err k
 
--- the role of a truth value, by its code
-abbrev pub truth_code : Bool → ℕ
-truth_code true = 4
-truth_code false = 5
+-- the role of a truth value
+abbrev pub truth_role : Bool → Role
+truth_role true = True
+truth_role false = False
 
 -- what `Left` of the state says, for whatever the outcome stands for in an environment that agrees
 pub record OutcomeLeft (l sc : List ℕ) (g : Given) (m : Meter) (o : Outcome) (r : Answer) (sc' : List ℕ) : Type 0 where
@@ -110,10 +106,13 @@ pub record Major (l sc : List ℕ) (g : Given) (m : Meter) (q : Ptr) : Type 0 wh
 abbrev pub major_of : Store → rules.Ptr → Env → Option heads.Made
 major_of s q e = as_constructor e s (head_row s q) (args_of s q)
 
-abbrev pub meter_made : Made → Option Meter
-meter_made (As c p sp m) = some m
-meter_made (Nothing m) = some m
-meter_made (Refused k) = none
+-- the major as a constructor, if it is one, with the meter after its rows; or the refusal
+abbrev pub Construction : Type 0
+Construction = Answers (Maybe Made × Meter) Refusal
+
+abbrev pub meter_made : Construction → Option Meter
+meter_made (Ok (z, m)) = some m
+meter_made (Err k) = none
 
 -- no constructor: nothing is written, and the meter stays
 pub record NotMade (sc : List ℕ) (m : Meter) (major : Option heads.Made) (m' : Meter) (sc' : List ℕ) : Type 0 where
@@ -127,38 +126,38 @@ pub record RefusedMade (lim : Limits) (s : Store) (major : Option heads.Made) (k
   pub is : major ≡ some made
   pub charged : charge lim s (grow s made.rows) ≡ some k
 
--- its rows stand, and its arguments are those of the spine at p
-pub record MadeAs (l sc : List ℕ) (g : Given) (m : Meter) (major : Option heads.Made) (c : ℕ) (p : Ptr) (sp : Spined) (m' : Meter) (sc' : List ℕ) : Type 0 where
+-- its rows stand, and its arguments are those of the spine at its term
+pub record MadeAs (l sc : List ℕ) (g : Given) (m : Meter) (major : Option heads.Made) (z : Made) (m' : Meter) (sc' : List ℕ) : Type 0 where
   pub made : heads.Made
   pub is : major ≡ some made
-  pub declaration : made.declaration ≡ c
+  pub declaration : made.declaration ≡ z.constructor
   pub charged : charge (limits_in g sc) (store_of l sc m.mark) (grow (store_of l sc m.mark) made.rows) ≡ none
   pub store : store_of l sc' m'.mark ≡ grow (store_of l sc m.mark) made.rows
-  pub arguments : args_of (store_of l sc' m'.mark) (ptr_of p) ≡ made.arguments
-  pub many : length made.arguments ≡ sp.count
-  pub scope : InScope (store_of l sc' m'.mark) g.depth (ptr_of p)
+  pub arguments : args_of (store_of l sc' m'.mark) (ptr_of z.term) ≡ made.arguments
+  pub many : length made.arguments ≡ z.spine.count
+  pub scope : InScope (store_of l sc' m'.mark) g.depth (ptr_of z.term)
   pub steps : m'.steps ≡ m.steps
   pub used : Used l sc' g.nlib m'.mark
 
 -- each way out, for every environment that agrees; rows below the old mark stand, and the new ones do too
-pub record Constructed (l sc : List ℕ) (g : Given) (m : Meter) (major : Env → Option heads.Made) (r : Made) (sc' : List ℕ) : Type 0 where
-  pub nothing : (m' : Meter) → r ≡ Nothing m' → (e : Env) → Agrees e g.holders → NotMade sc m (major e) m' sc'
-  pub refused : (k : ℕ) → r ≡ Refused k → (e : Env) → Agrees e g.holders → RefusedMade (limits_in g sc) (store_of l sc m.mark) (major e) k
-  pub made : (c : ℕ) (p : Ptr) (sp : Spined) (m' : Meter) → r ≡ As c p sp m' → (e : Env) → Agrees e g.holders →
-      MadeAs l sc g m (major e) c p sp m' sc'
+pub record Constructed (l sc : List ℕ) (g : Given) (m : Meter) (major : Env → Option heads.Made) (r : Construction) (sc' : List ℕ) : Type 0 where
+  pub nothing : (m' : Meter) → r ≡ Ok (None, m') → (e : Env) → Agrees e g.holders → NotMade sc m (major e) m' sc'
+  pub refused : (k : Refusal) → r ≡ Err k → (e : Env) → Agrees e g.holders → RefusedMade (limits_in g sc) (store_of l sc m.mark) (major e) (number_of k)
+  pub made : (z : Made) (m' : Meter) → r ≡ Ok (Some z, m') → (e : Env) → Agrees e g.holders → MadeAs l sc g m (major e) z m' sc'
   pub kept : take (9 * m.mark) sc' ≡ take (9 * m.mark) sc
   pub same_length : length sc' ≡ length sc
   pub grown : (m' : Meter) → meter_made r ≡ some m' → Grown sc m.mark sc' m'.mark
 
 -- a constant's major is itself
-abbrev pub constant_in : Meter → Ptr → Spined → Option ℕ → Made
-constant_in m q sp none = Nothing m
-constant_in m q sp (some c) = As c q sp m
+abbrev pub constant_in : Ptr → Spined → Option ℕ → Maybe Made
+constant_in q sp none = None
+constant_in q sp (some c) = Some (record { constructor = c; term = q; spine = sp })
 
-pub record ConstantMade (l sc : List ℕ) (m : Meter) (q : Ptr) (r : Made) : Type 0 where
+-- whichever mark the rows are used up to
+pub record ConstantMade (l sc : List ℕ) (q : Ptr) (r : Maybe Made) : Type 0 where
   pub spined : Spined
-  pub is : (nlib d : ℕ) → Used l sc nlib m.mark → InScope (store_of l sc m.mark) d (ptr_of q) →
-      (r ≡ constant_in m q spined (as_constant (head_row (store_of l sc m.mark) (ptr_of q)))) × (length (args_of (store_of l sc m.mark) (ptr_of q)) ≡ spined.count)
+  pub is : (nlib m d : ℕ) → Used l sc nlib m → InScope (store_of l sc m) d (ptr_of q) →
+      (r ≡ constant_in q spined (as_constant (head_row (store_of l sc m) (ptr_of q)))) × (length (args_of (store_of l sc m) (ptr_of q)) ≡ spined.count)
 
 -- "succ of the number below (constant, number, application)", each row charged when it is due
 unfoldable pub succ_in : ℕ → Store → ℕ → ℕ → course.Out
@@ -168,10 +167,10 @@ succ_in most s c n =
     put_in most below.store (node app f.at below.at blank)
 
 -- rows written for a constructor with `count` arguments; the constant is the first of them
-abbrev pub made_from : Given → Meter → ℕ → ℕ → Out → Made
-made_from g m c count (out.Done p mark) =
-    As c p (record { head = record { row = g.nlib + m.mark; shift = 0 }; count = count }) (record { mark = mark; steps = m.steps })
-made_from g m c count (out.Refused k) = Refused k
+abbrev pub made_from : Given → Meter → ℕ → ℕ → Out → Construction
+made_from g m c count (Ok (p, mark)) =
+    Ok (Some (record { constructor = c; term = p; spine = record { head = record { row = g.nlib + m.mark; shift = 0 }; count = count } }), metered_at m mark)
+made_from g m c count (Err k) = Err k
 
 -- A RULE FIRED
 
@@ -188,10 +187,10 @@ ruled_step lim m none = final m
 ruled_step lim m (some ρ) = fire_in lim m (itself ρ.value) ρ.arguments
 
 -- t is a recursor's spine with its major at `position`, the constructor's arguments are those at made, and rule values stand
-pub record MayRule (l rs sc : List ℕ) (g : Given) (m : Meter) (first many : ℕ) (made : Ptr) (sp : Spined) (t : Ptr) (count before position : ℕ) : Type 0 where
+pub record MayRule (l rs sc : List ℕ) (g : Given) (m : Meter) (first many : ℕ) (made : Made) (t : Ptr) (count before position : ℕ) : Type 0 where
   pub headed : Headed l sc g m t count
-  pub scope : InScope (store_of l sc m.mark) g.depth (ptr_of made)
-  pub counted : length (args_of (store_of l sc m.mark) (ptr_of made)) ≡ sp.count
+  pub scope : InScope (store_of l sc m.mark) g.depth (ptr_of made.term)
+  pub counted : length (args_of (store_of l sc m.mark) (ptr_of made.term)) ≡ made.spine.count
   pub rules : 4 * (first + many) ≤ length rs
   pub values : (i : ℕ) (ρ : Rule) → nth (records_from 4 rs rule_of first many) i ≡ some ρ → Good (store_of l sc m.mark) ρ.value
   pub order : before ≤ position

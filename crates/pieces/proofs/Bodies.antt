@@ -5,6 +5,7 @@ use native.Mathlib.Omega.{arith}
 use mathlib.Core.Path.{◌≡◌, refl, sym, ap, ◌∙◌, subst}
 use mathlib.Core.List.{List}
 use mathlib.Core.Option.{none, some}
+use Rattle.std.specs.Prelude.{Some}
 use Rattle.rules.specs.Rows as rules
 use Rattle.rules.specs.Rows.{Store}
 use Rattle.course.specs.Charged.{replace_in}
@@ -17,9 +18,9 @@ use Rattle.inferring.specs.Scope.{opened_scope, moved_scope, standing_scope}
 use Rattle.rows.specs.declared.Ptr.{Ptr}
 use Rattle.rows.specs.Words.{ptr_of}
 use Rattle.replace.specs.declared.Sub.{Sub}
-use Rattle.replace.specs.Replaced.{value_of, height_of, PtrReady}
+use Rattle.replace.specs.Replaced.{value_of, shift_of, height_of, PtrReady}
 use Rattle.cycle.proofs.Shifts.{scope_shift, body_shift}
-use Rattle.state.specs.declared.Reduced.{Reduced}
+use Rattle.state.specs.State.{Reduced}
 use Rattle.typing.specs.Here.{Here, depth_at, store_at, limits_at, res_at, Scope, Ready}
 use Rattle.typing.specs.Gives.{outcome_of, Gives, GivesPtr, InAt}
 use Rattle.typing.specs.Written.{Written}
@@ -30,15 +31,14 @@ use Rattle.pieces.specs.Leaves.{no_sub, BodyOf, as_it_stands, moved}
 -- TO CALL
 
 module _ {h : Here} (ready : Ready h) {b : Ptr} {by : ℕ} (body : BodyIn (store_at h) (depth_at h) by (ptr_of b)) (small : by ≤ depth_at h) where
-  may_replace : (x : Sub) (c : ℕ) → x.by ≡ by → x.count ≤ 1 → ValueGood (store_at h) (value_of x) → x.value.shift ≤ 65536 → c ≤ 1 →
+  may_replace : (x : Sub) (c : ℕ) → x.by ≡ by → ValueGood (store_at h) (value_of x) → shift_of x.value ≤ 65536 → c ≤ 1 →
       PtrReady h.library h.scratch h.given.nlib h.meter.mark b c x
-  may_replace x c moves one good shift cutoff =
+  may_replace x c moves good shift cutoff =
       let stand = ready.stand in
       let f = (stand.sane.pass.each b.row body.good.lower).fits.height in
       record {
         ready = record {
           sound = record { held = stand.held; words = stand.words; declarations = _; pass = stand.sane.pass };
-          one = one;
           value = good;
           value_shift = shift;
           move = omega (arith, stand.small, small, moves);
@@ -50,14 +50,14 @@ module _ {h : Here} (ready : Ready h) {b : Ptr} {by : ℕ} (body : BodyIn (store
 
   -- a value into a body
   pub may_open : {a : Ptr} → Scope h (ptr_of a) →
-      PtrReady h.library h.scratch h.given.nlib h.meter.mark b 0 (record { value = a; count = 1; by = by })
+      PtrReady h.library h.scratch h.given.nlib h.meter.mark b 0 (record { value = Some a; by = by })
   may_open {a} scope =
-      may_replace (record { value = a; count = 1; by = by }) 0 refl (omega arith) (some_good (scope_good scope))
-      (omega (arith, scope_shift scope, ready.stand.small)) (omega arith)
+      may_replace (record { value = Some a; by = by }) 0 refl (some_good (scope_good scope)) (omega (arith, scope_shift scope, ready.stand.small))
+      (omega arith)
 
   -- a body under its binder's shift
   pub may_open_body : PtrReady h.library h.scratch h.given.nlib h.meter.mark b 1 (no_sub by)
-  may_open_body = may_replace (no_sub by) 1 refl (omega arith) none_good (omega arith) (omega arith)
+  may_open_body = may_replace (no_sub by) 1 refl none_good (omega arith) (omega arith)
 
 -- WHAT IS GIVEN
 

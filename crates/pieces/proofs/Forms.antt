@@ -21,17 +21,16 @@ use Rattle.inferring.specs.Asks.{Ask, answers, untyped, writes, if_equal, sort_t
 use Rattle.inferring.specs.Views.{EqView, equal, differ, eq_view}
 use Rattle.inferring.specs.Eval.{run, level_on}
 use Rattle.rows.specs.declared.Ptr.{Ptr}
-use Rattle.rows.specs.declared.Out.{Out}
-use Rattle.rows.specs.declared.Out.TheVariants as out
+use Rattle.rows.specs.Refusals.{Out}
 use Rattle.rows.specs.Words.{ite, ptr_of, row_of}
 use Rattle.rows.specs.Writes.{sort_in, out_of}
 use Rattle.rows.proofs.DueRows.{sort_row_is}
+use Rattle.rows.proofs.RefusalNumbers.{one_number}
 use Rattle.tables.specs.Read.{decl_read}
 use Rattle.tables.specs.ReadLaws.{levels_is}
 use Rattle.records.specs.Read.{type_read}
 use Rattle.records.proofs.Types.{type_is}
-use Rattle.state.specs.declared.Reduced.{Reduced}
-use Rattle.state.specs.declared.Reduced.TheVariants.{To, Refused}
+use Rattle.state.specs.State.{Reduced}
 use Rattle.cycle.proofs.Standing.{declarations_are}
 use Rattle.typing.specs.Here.{Here, depth_at, env_at, store_at, limits_at, res_at, Scope, Ready}
 use Rattle.typing.specs.Gives.{Infers}
@@ -39,6 +38,10 @@ use Rattle.typing.specs.Written.{reduced_by, Written}
 use Rattle.typing.proofs.Places.{At, nothing_kept, nothing_after, nothing_keeps, form_ends, form_stops, form_by_piece}
 use Rattle.pieces.specs.Leaves.{const_type}
 use Rattle.pieces.proofs.MadeRows.{sort_shape, made_sort_gives}
+use Rattle.std.specs.Prelude.{Err, Ok}
+use Rattle.rows.specs.declared.refusals.Refusal.TheVariants.{NoType, SortLevel}
+use Rattle.rows.specs.Refusals.{number_of}
+use Rattle.rows.specs.declared.refusals.Refusal.{Refusal}
 
 -- AN ASK THAT IS ANOTHER
 
@@ -47,18 +50,18 @@ module _ {n : ℕ} {h : Here} (ready : Ready h) {y : Ask} where
   begins_as z e = record { is = sym (ap (res_at n h) e); after = nothing_after ready }
 
   -- no type: 9
-  pub no_type : y ≡ untyped → Infers n h y (Refused 9) h.context h.scratch
+  pub no_type : y ≡ untyped → Infers n h y (Err NoType) h.context h.scratch
   unfolding run
   no_type e = form_stops refl (record { is = sym (ap (res_at n h) e); keeps = nothing_keeps h })
 
-  pub a_type : {p : Ptr} → y ≡ answers (ptr_of p) → Scope h (ptr_of p) → Infers n h y (To p h.meter) h.context h.scratch
+  pub a_type : {p : Ptr} → y ≡ answers (ptr_of p) → Scope h (ptr_of p) → Infers n h y (Ok (p, h.meter)) h.context h.scratch
   a_type {p} e scope = form_ends (begins_as (answers (ptr_of p)) e) scope
 
 -- A SORT
 
-refused_answer : (l sc : List ℕ) {k : ℕ} (o : Out) → out_of o l sc ≡ course.refused k → (steps : ℕ) → reduced_by steps o ≡ Refused k
-refused_answer l sc (out.Done p m) e steps = absurd (let z : ◌≡◌ {A = ℕ} 0 1 = cc in omega arith)
-refused_answer l sc {k} (out.Refused j) e steps = let z : j ≡ k = cc in ap Refused z
+refused_answer : (l sc : List ℕ) {k : Refusal} (o : Out) → out_of o l sc ≡ course.refused (number_of k) → (steps : ℕ) → reduced_by steps o ≡ Err k
+refused_answer l sc (Ok (p, m)) e steps = cc
+refused_answer l sc {k} (Err j) e steps = let numbers : number_of j ≡ number_of k = cc in ap Err (one_number j k numbers)
 
 module _ (n : ℕ) {h : Here} (ready : Ready h) (level : ℕ) {r : Reduced} {sc : List ℕ}
     (w : Written h.library h.scratch h.meter r sc (sort_in (limits_at h).rows (store_at h) (suc level))) where
@@ -75,7 +78,7 @@ module _ (n : ℕ) {h : Here} (ready : Ready h) (level : ℕ) {r : Reduced} {sc 
       (ap (λ (b : Bool). ite b (course.refused 10) (put_in (limits_at h).rows (store_at h) (leaf (sort (suc level))))) (le-ltb most_level (suc level) low)
       ∙ ap (put_in (limits_at h).rows (store_at h)) (sym (sort_row_is (suc level)))) w
 
-  level_over : most_level < suc level → r ≡ Refused 10
+  level_over : most_level < suc level → r ≡ Err SortLevel
   level_over high =
       w.is
       ∙ refused_answer h.library sc w.answer (w.wrote.says
@@ -132,7 +135,7 @@ const_infers n {h} ready d levels there {r} is =
     scope = closed_in (depth_at h) (ready.typed.type d (omega (arith, there, declarations_are h.decls h.rules h.context (depth_at h))))
 
     on : (b : Bool) → eqb counted levels ≡ b →
-        Infers n h (constant_type (env_at h) d levels) (ite b (To (type_read (part 16 h.decls d)) h.meter) (Refused 9)) h.context h.scratch
+        Infers n h (constant_type (env_at h) d levels) (ite b (Ok (type_read (part 16 h.decls d), h.meter)) (Err NoType)) h.context h.scratch
     on true e =
         a_type ready
         (if_same (eq_view said levels) (same ∙ eqb-true counted levels e) (answers (decl_at (env_at h).decls d).type) ∙ ap answers (sym type))

@@ -1,4 +1,3 @@
-pub mod Leaves
 pub mod Bodies
 pub mod Reducts
 pub mod Sorts

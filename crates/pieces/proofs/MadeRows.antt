@@ -18,12 +18,12 @@ use Rattle.inferring.specs.Asks.{writes}
 use Rattle.inferring.specs.Scope.{pi-bound}
 use Rattle.rows.specs.declared.Ptr.{Ptr}
 use Rattle.rows.specs.declared.Shape.{Shape}
-use Rattle.rows.specs.Words.{ptr_of, row_of, leaf_shape}
+use Rattle.rows.specs.Words.{ptr_of, row_of, pair, leaf_shape}
 use Rattle.rows.specs.Writes.{Due}
 use Rattle.rows.proofs.Store.{held_length}
-use Rattle.rows.proofs.Formed.{pair, shape}
+use Rattle.rows.proofs.Formed.{shape}
 use Rattle.rows.proofs.DueRows.{sort_due, const_due, two_due, proj_due, sort_row_is, const_row_is, pi_row_is, proj_row_is}
-use Rattle.state.specs.declared.Reduced.{Reduced}
+use Rattle.state.specs.State.{Reduced}
 use Rattle.typing.specs.Here.{Here, depth_at, env_at, store_at, limits_at, Scope, Ready}
 use Rattle.typing.specs.Gives.{GivesPtr, outcome_of, Gives, InAt}
 use Rattle.typing.specs.Written.{Written, Writable}

@@ -15,13 +15,12 @@ use Rattle.inferring.specs.Asks.{Ask, opens, pi_of, if_there, parameters}
 use Rattle.rows.specs.declared.Ptr.{Ptr}
 use Rattle.rows.specs.Words.{ptr_of}
 use Rattle.state.specs.declared.Meter.{Meter}
-use Rattle.state.specs.declared.Reduced.{Reduced}
-use Rattle.state.specs.declared.Reduced.TheVariants.{To, Refused}
 use Rattle.typing.specs.Here.{Here, later, depth_at, store_at, res_at, Scope, Ready, After}
-use Rattle.typing.specs.Gives.{outcome_of, Gives, GivesPtr, InAt}
+use Rattle.typing.specs.Gives.{Outcome, gave, refused, Gives, GivesPtr, InAt}
 use Rattle.typing.proofs.Places.{At, begins, goes_on, stops, keeps_then, after_then, nothing_after, piece_gives, piece_stops}
 use Rattle.pieces.specs.Leaves.{Walking, parameter_ask}
 use Rattle.pieces.proofs.Parameters.{arguments_same, along_later, many_later}
+use Rattle.std.specs.Prelude.{Ok}
 
 -- no argument at i, or the one with which the list from i on begins
 data ArgumentAt (ys : List rules.Ptr) (i : ℕ) : Type 0 where
@@ -60,7 +59,7 @@ pub record WalkedTo (n : ℕ) (h : Here) (many : ℕ) (w t : Ptr) (sc : List ℕ
   pub after : After h h.context sc m
   pub scope : Scope (later h h.context sc m) (ptr_of at)
 
-module _ (n : ℕ) (h : Here) (ready : Ready h) (many : ℕ) (w t : Ptr) (count : ℕ) (walk : Walking h w t count) where
+module _ (n : ℕ) {h : Here} (ready : Ready h) (many : ℕ) {w t : Ptr} {count : ℕ} (walk : Walking h w t count) where
   abbrev ys : List rules.Ptr
   ys = args_of (store_at h) (ptr_of t)
 
@@ -76,12 +75,12 @@ module _ (n : ℕ) (h : Here) (ready : Ready h) (many : ℕ) (w t : Ptr) (count 
         scope = walk.at;
       }
 
-  module _ (sc : List ℕ) (at : Ptr) (m : Meter) (i : ℕ) (so_far : WalkedTo n h many w t sc at m i) where
+  module _ {sc : List ℕ} {at : Ptr} {m : Meter} {i : ℕ} (so_far : WalkedTo n h many w t sc at m i) where
     abbrev h₁ : Here
     h₁ = later h h.context sc m
 
     -- no parameter is left
-    pub all_walked : many ≤ i → GivesPtr n h (parameters many ys (store_at h) (ptr_of w)) (To at m) h.context sc
+    pub all_walked : many ≤ i → GivesPtr n h (parameters many ys (store_at h) (ptr_of w)) (Ok (at, m)) h.context sc
     unfolding parameters
     all_walked done =
         let none_left : many - i ≡ 0 = omega arith in
@@ -97,11 +96,11 @@ module _ (n : ℕ) (h : Here) (ready : Ready h) (many : ℕ) (w t : Ptr) (count 
     may_go_on = record { at = so_far.scope; along = along_later ready walk so_far.after; many = many_later ready walk so_far.after }
 
     -- `parameter` answered
-    module _ (less : i < many) (got : Reduced) (sc₁ : List ℕ)
-        (answer : GivesPtr n h₁ (parameter_ask (ptr_of at) (args_of (store_at h₁) (ptr_of t)) i) got h.context sc₁) where
-      parameter_is : GivesPtr n h₁ (parameter_ask (ptr_of at) ys i) got h.context sc₁
+    module _ (less : i < many) {o : Outcome rules.Ptr} {sc₁ : List ℕ}
+        (answer : Gives (InAt (depth_at h)) n h₁ (parameter_ask (ptr_of at) (args_of (store_at h₁) (ptr_of t)) i) o h.context sc₁) where
+      parameter_is : Gives (InAt (depth_at h)) n h₁ (parameter_ask (ptr_of at) ys i) o h.context sc₁
       parameter_is =
-          subst (λ (xs : List rules.Ptr). Gives (InAt (depth_at h)) n h₁ (parameter_ask (ptr_of at) xs i) (outcome_of got) h.context sc₁)
+          subst (λ (xs : List rules.Ptr). Gives (InAt (depth_at h)) n h₁ (parameter_ask (ptr_of at) xs i) o h.context sc₁)
           (arguments_same ready walk so_far.after) answer
 
       abbrev rest : (Store → rules.Ptr → Ask) → Store → rules.Ptr → Ask
@@ -119,16 +118,15 @@ module _ (n : ℕ) (h : Here) (ready : Ready h) (many : ℕ) (w t : Ptr) (count 
             after = so_far.after;
           }
 
-      pub turn_stopped : (k : ℕ) → got ≡ Refused k → GivesPtr n h (parameters many ys (store_at h) (ptr_of w)) got h.context sc₁
-      turn_stopped k is =
-          piece_stops (ap outcome_of is) (λ next. stops parameter_is (rest next) (at_turn next) (ap outcome_of is)) (keeps_then so_far.after parameter_is.keeps)
+      pub turn_stopped : {k : ℕ} → o ≡ refused k → Gives (InAt (depth_at h)) n h (parameters many ys (store_at h) (ptr_of w)) (refused k) h.context sc₁
+      turn_stopped is = piece_stops refl (λ next. stops parameter_is (rest next) (at_turn next) is) (keeps_then so_far.after parameter_is.keeps)
 
-      pub turn_taken : (p : Ptr) (m₁ : Meter) → got ≡ To p m₁ → WalkedTo n h many w t sc₁ p m₁ (i + 1)
-      turn_taken p m₁ is =
-          let v = parameter_is.value (ptr_of p) m₁ (ap outcome_of is) in
+      pub turn_taken : {p : Ptr} {m₁ : Meter} → o ≡ gave (ptr_of p) m₁ → WalkedTo n h many w t sc₁ p m₁ (i + 1)
+      turn_taken {p} {m₁} is =
+          let v = parameter_is.value (ptr_of p) m₁ is in
           subst (WalkedTo n h many w t sc₁ p m₁) (sym (add-one i))
           (record {
-            is = λ next. goes_on parameter_is (rest next) (at_turn next) (ap outcome_of is);
+            is = λ next. goes_on parameter_is (rest next) (at_turn next) is;
             after = after_then so_far.after v.after;
             scope = v.fits;
           })

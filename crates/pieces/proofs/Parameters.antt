@@ -22,18 +22,18 @@ use Rattle.replace.specs.Replaced.{height_of, PtrReady}
 use Rattle.spine.specs.Walks.{Counted, Argument}
 use Rattle.spine.proofs.ForCallers.{may_ask, argument_is, argument_scope}
 use Rattle.state.specs.declared.Meter.{Meter}
-use Rattle.state.specs.declared.Reduced.{Reduced}
-use Rattle.state.specs.declared.Reduced.TheVariants.{Refused}
+use Rattle.state.specs.State.{Reduced}
 use Rattle.typing.specs.Here.{Here, later, depth_at, store_at, limits_at, res_at, Scope, Ready, After}
-use Rattle.typing.specs.Gives.{outcome_of, Value, Gives, GivesPtr}
+use Rattle.typing.specs.Gives.{Outcome, gave, refused, Value, Gives, GivesPtr, InAt}
 use Rattle.typing.specs.Pieces.{PiParts, PiIn, pi_ask}
 use Rattle.typing.specs.Written.{Written}
 use Rattle.typing.proofs.Places.{At, begins, goes_on, stops, piece_stops, piece_by_piece}
-use Rattle.pieces.specs.declared.PiTo.{PiTo}
-use Rattle.pieces.specs.declared.PiTo.TheVariants as pis
-use Rattle.pieces.specs.Found.{pi_outcome, as_reduced_pi}
+use Rattle.pieces.specs.declared.ReachedPi.{ReachedPi}
+use Rattle.pieces.specs.Found.{parts_of}
 use Rattle.pieces.specs.Leaves.{Walking, parameter_ask}
 use Rattle.pieces.proofs.Bodies.{may_open, opened_gives}
+use Rattle.std.specs.Prelude.{Err, Some}
+use Rattle.rows.specs.declared.refusals.Refusal.TheVariants.{NoType}
 
 -- ARGUMENTS, later and by position
 
@@ -60,42 +60,44 @@ past_arguments (a ∷ ys) (suc i) h = past_arguments ys i (omega arith)
 
 -- ONE PARAMETER
 
-module _ (n : ℕ) (h : Here) (ready : Ready h) (w t : Ptr) (count : ℕ) (walk : Walking h w t count) (i : ℕ) (got : PiTo) (sc : List ℕ)
-    (pi : Gives (PiIn (depth_at h)) n h (pi_ask (ptr_of w)) (pi_outcome got) h.context sc) where
+module _ (n : ℕ) {h : Here} (ready : Ready h) {w t : Ptr} {count : ℕ} (walk : Walking h w t count) (i : ℕ) where
   abbrev ys : List rules.Ptr
   ys = args_of (store_at h) (ptr_of t)
 
   abbrev opening : (Store → rules.Ptr → Ask) → PiParts → Option rules.Ptr → Ask
   opening next a o = if_there o λ v. opens (some v) a.by 0 a.body next
 
+  abbrev PiGives : Outcome PiParts → List ℕ → Type 0
+  PiGives o sc = Gives (PiIn (depth_at h)) n h (pi_ask (ptr_of w)) o h.context sc
+
   begun : (next : Store → rules.Ptr → Ask) →
       At n h (res_at n h (parameter_ask (ptr_of w) ys i next)) h.context h.scratch h.meter (pi_ask (ptr_of w) (λ s a. opening next a (nth ys i)))
   unfolding parameter_ask pi_ask
   begun next = begins ready
 
-  pub parameter_stopped : (k : ℕ) → got ≡ pis.Refused k → {r : Reduced} → r ≡ as_reduced_pi got → GivesPtr n h (parameter_ask (ptr_of w) ys i) r h.context sc
-  parameter_stopped k is e =
-      piece_stops (ap outcome_of (e ∙ ap as_reduced_pi is)) (λ next. stops pi (λ s a. opening next a (nth ys i)) (begun next) (ap pi_outcome is)) pi.keeps
+  pub parameter_stopped : {k : ℕ} {sc : List ℕ} → PiGives (refused k) sc →
+      Gives (InAt (depth_at h)) n h (parameter_ask (ptr_of w) ys i) (refused k) h.context sc
+  parameter_stopped pi = piece_stops refl (λ next. stops pi (λ s a. opening next a (nth ys i)) (begun next) refl) pi.keeps
 
-  module _ (ty body : Ptr) (by : ℕ) (m : Meter) (is : got ≡ pis.Found ty body by m) where
-    abbrev parts : PiParts
-    parts = record { type = ptr_of ty; body = ptr_of body; by = by }
-
-    left : Value (PiIn (depth_at h)) h h.context sc parts m
-    left = pi.value parts m (ap pi_outcome is)
+  -- the pi a was reached
+  module _ {a : ReachedPi} {m : Meter} {sc : List ℕ} (pi : PiGives (gave (parts_of a) m) sc) where
+    left : Value (PiIn (depth_at h)) h h.context sc (parts_of a) m
+    left = pi.value (parts_of a) m refl
 
     abbrev h₁ : Here
     h₁ = later h h.context sc m
 
-    at_pi : (next : Store → rules.Ptr → Ask) → At n h (res_at n h (parameter_ask (ptr_of w) ys i next)) h.context sc m (opening next parts (nth ys i))
-    at_pi next = goes_on pi (λ s a. opening next a (nth ys i)) (begun next) (ap pi_outcome is)
+    at_pi : (next : Store → rules.Ptr → Ask) → At n h (res_at n h (parameter_ask (ptr_of w) ys i next)) h.context sc m (opening next (parts_of a) (nth ys i))
+    at_pi next = goes_on pi (λ s b. opening next b (nth ys i)) (begun next) refl
 
-    pub no_argument_left : count ≤ i → GivesPtr n h (parameter_ask (ptr_of w) ys i) (Refused 9) h.context sc
+    pub no_argument_left : count ≤ i → GivesPtr n h (parameter_ask (ptr_of w) ys i) (Err NoType) h.context sc
     unfolding run
     no_argument_left past =
         piece_stops refl
         (λ next. record {
-          is = sym (ap (λ (o : Option rules.Ptr). res_at n h₁ (opening next parts o)) (past_arguments ys i (omega (arith, past, walk.many)))) ∙ (at_pi next).is;
+          is =
+              sym (ap (λ (o : Option rules.Ptr). res_at n h₁ (opening next (parts_of a) o)) (past_arguments ys i (omega (arith, past, walk.many))))
+              ∙ (at_pi next).is;
           keeps = pi.keeps;
         })
         pi.keeps
@@ -106,28 +108,32 @@ module _ (n : ℕ) (h : Here) (ready : Ready h) (w t : Ptr) (count : ℕ) (walk 
         may_ask h.library sc m.mark h.given.nlib _ (depth_at h) r.stand.held r.stand.sane.pass t (along_later ready walk left.after) r.stand.small
         count (many_later ready walk left.after)
 
-    module _ (a : Ptr) (answered : Argument (whole h.library sc) (ptr_of t) count i a) where
-      argument_here : nth ys i ≡ some (ptr_of a)
+    module _ {v : Ptr} (answered : Argument (whole h.library sc) (ptr_of t) count i v) where
+      argument_here : nth ys i ≡ some (ptr_of v)
       argument_here =
           let r = left.after.ready in
           ap (λ (xs : List rules.Ptr). nth xs i) (sym (arguments_same ready walk left.after))
-          ∙ argument_is h.library sc m.mark h.given.nlib _ (depth_at h) r.stand.held r.stand.sane.pass t (along_later ready walk left.after) count i a
+          ∙ argument_is h.library sc m.mark h.given.nlib _ (depth_at h) r.stand.held r.stand.sane.pass t (along_later ready walk left.after) count i v
           (many_later ready walk left.after) answered
 
-      argument_in : Scope h₁ (ptr_of a)
+      argument_in : Scope h₁ (ptr_of v)
       argument_in =
           let r = left.after.ready in
-          argument_scope h.library sc m.mark h.given.nlib _ (depth_at h) r.stand.held r.stand.sane.pass t (along_later ready walk left.after) count i a
+          argument_scope h.library sc m.mark h.given.nlib _ (depth_at h) r.stand.held r.stand.sane.pass t (along_later ready walk left.after) count i v
           (many_later ready walk left.after) answered
 
-      pub may_open_argument : PtrReady h.library sc h.given.nlib m.mark body 0 (record { value = a; count = 1; by = by })
+      pub may_open_argument : PtrReady h.library sc h.given.nlib m.mark a.body 0 (record { value = Some v; by = a.by })
       may_open_argument = may_open left.after.ready left.fits.body left.fits.by argument_in
 
       pub parameter_opened : {r : Reduced} {sc₁ : List ℕ} →
-          Written h.library sc m r sc₁ (replace_in (limits_at h₁).rows (some (ptr_of a)) by (height_of h.library sc m.mark body.row) 0 (store_at h₁) (ptr_of body)) →
+          Written h.library sc m r sc₁ (replace_in (limits_at h₁).rows (some (ptr_of v)) a.by (height_of h.library sc m.mark a.body.row) 0
+          (store_at h₁) (ptr_of a.body)) →
           GivesPtr n h (parameter_ask (ptr_of w) ys i) r h.context sc₁
       parameter_opened k =
           piece_by_piece
-          (λ next. record { is = sym (ap (λ (o : Option rules.Ptr). res_at n h₁ (opening next parts o)) argument_here) ∙ (at_pi next).is; after = left.after })
+          (λ next. record {
+            is = sym (ap (λ (o : Option rules.Ptr). res_at n h₁ (opening next (parts_of a) o)) argument_here) ∙ (at_pi next).is;
+            after = left.after;
+          })
           left.after
           (opened_gives n left.after.ready left.fits.body argument_in k)

@@ -20,27 +20,25 @@ use Rattle.inferring.specs.Eval as eval
 use Rattle.inferring.specs.Eval.{run}
 use Rattle.rows.specs.declared.Ptr.{Ptr}
 use Rattle.rows.specs.Words.{ptr_of, shape_at, words_at, store_of}
-use Rattle.records.specs.declared.SortFound.{SortFound}
-use Rattle.records.specs.declared.SortFound.TheVariants as found
 use Rattle.records.specs.Read.{sort_read}
 use Rattle.records.proofs.SortsAndPis.{sort_found, no_sort_found}
 use Rattle.state.specs.declared.Meter.{Meter}
-use Rattle.state.specs.declared.Reduced.{Reduced}
-use Rattle.state.specs.declared.Reduced.TheVariants.{To, Refused}
-use Rattle.state.specs.State.{tally_of, Used}
-use Rattle.cycle.specs.Cycle.{Ran}
+use Rattle.state.specs.State.{Reduced, tally_of, Used}
 use Rattle.typing.specs.Here.{Here, depth_at, env_at, tally_at, limits_at, spare_at, Scope, Ready, Keeps}
 use Rattle.typing.specs.Gives.{Outcome, gave, refused, outcome_of, then_on, Value, Gives, InAt, res_by}
 use Rattle.typing.specs.Pieces.{ran_with, ran_then, LevelIn, Sorted, within}
 use Rattle.typing.proofs.Places.{gave_apart, nothing_kept, value_is}
 use Rattle.typing.proofs.Alike.{res_alike, after_rows}
 use Rattle.typing.proofs.Reducing.{reduced_says, reduced_keeps}
-use Rattle.pieces.proofs.Reducts.{ready_used, scope_there, reduct}
+use Rattle.pieces.proofs.Reducts.{SideRan, ready_used, scope_there, reduct}
+use Rattle.std.specs.Prelude.{Err, None, Ok, Option as Maybe, Some}
+use Rattle.rows.specs.Refusals.{number_of}
+use Rattle.rows.specs.declared.refusals.Refusal.{Refusal}
 
 -- THE ROW OF THE REDUCT
 
 if_a_sort : (w : Row) (v : SortView w) (level : ℕ) → w ≡ leaf (sort level) → (next : ℕ → Ask) → if_sort v next ≡ next level
-if_a_sort w (is_sort l x y z q) level e next = let same : leaf (sort level) ≡ node (sort l) x y z = sym e ∙ q in let k : l ≡ level = cc in ap next k
+if_a_sort w (is_sort l x y z q) level e next = let same : l ≡ level = cc in ap next same
 if_a_sort w (no_sort f) level e next = absurd (f level _ _ _ e)
 
 if_no_sort : (w : Row) (v : SortView w) → ((level : ℕ) (x y z : rules.Ptr) → w ≡ node (sort level) x y z → ⊥) → (next : ℕ → Ask) → if_sort v next ≡ untyped
@@ -52,8 +50,7 @@ level_in (node_worded (sort_in h)) = h
 
 -- THE WAYS OUT OF `to_sort`
 
-module _ (n : ℕ) (h : Here) (ready : Ready h) (p : Ptr) (scope : Scope h (ptr_of p)) (r : Reduced) (sc : List ℕ)
-    (ran : Ran h.library h.scratch h.meter r sc (side_at (env_at h) (limits_at h) n (tally_at h) (ptr_of p))) where
+module _ (n : ℕ) {h : Here} (ready : Ready h) {p : Ptr} (scope : Scope h (ptr_of p)) where
   -- the row that q points at is tested
   abbrev tested : (Store → ℕ → Ask) → Store → rules.Ptr → Ask
   tested next s q = if_sort (sort_view (row_at s q.row)) λ l. next s l
@@ -62,28 +59,30 @@ module _ (n : ℕ) (h : Here) (ready : Ready h) (p : Ptr) (scope : Scope h (ptr_
   abbrev follow : (e : Env) → ℕ → (Store → ℕ → Ask) → Res → Res
   follow e spare next x = eval.then_on (λ m q. ran_with n (limits_at h) e spare (tested next m.store q) m) x
 
-  answered : (e : Env) (X : Option rules.Ptr) (spare : ℕ) → with_record e X ≡ env_at h → (next : Store → ℕ → Ask) →
+  answered : {r : Reduced} {sc : List ℕ} → SideRan n h p r sc → (e : Env) (X : Option rules.Ptr) (spare : ℕ) → with_record e X ≡ env_at h →
+      (next : Store → ℕ → Ask) →
       ran_with n (limits_at h) e spare (sort_of X (ptr_of p) next) (tally_at h) ≡ follow e spare next (res_by h.library sc (outcome_of r))
   unfolding run sort_of
-  answered e X spare q next =
+  answered ran e X spare q next =
       ap (λ (e' : Env). follow e spare next (side_at e' (limits_at h) n (tally_at h) (ptr_of p))) q
       ∙ ap (follow e spare next) (sym (reduced_says n h ready {p = p} scope ran))
 
   -- refused before there was a row to look at
-  pub sort_stopped : (k : ℕ) → r ≡ Refused k → Sorted n h (ptr_of p) (refused k) sc
-  sort_stopped k is = record {
-    says = λ e X spare q next. answered e X spare q next ∙ ap (λ (x : Reduced). follow e spare next (res_by h.library sc (outcome_of x))) is;
+  pub sort_stopped : {k : Refusal} {sc : List ℕ} → SideRan n h p (Err k) sc → Sorted n h (ptr_of p) (refused (number_of k)) sc
+  sort_stopped ran = record {
+    says = answered ran;
     keeps = reduced_keeps n h ready {p = p} scope ran;
     value = λ l m q. absurd (gave_apart q);
   }
 
   -- the reduct t, whose row was read
-  module _ (t : Ptr) (m : Meter) (is : r ≡ To t m) (x : SortFound) (read : x ≡ sort_read (shape_at (words_at h.library sc t.row))) where
+  module _ {t : Ptr} {m : Meter} {sc : List ℕ} (ran : SideRan n h p (Ok (t, m)) sc)
+      {x : Maybe ℕ} (read : x ≡ sort_read (shape_at (words_at h.library sc t.row))) where
     abbrev s : Store
     s = store_of h.library sc m.mark
 
     abbrev left : Value (InAt (depth_at h)) h h.context sc (ptr_of t) m
-    left = reduct n h ready p scope r sc ran t m is
+    left = reduct n ready scope ran
 
     abbrev used : Used h.library sc h.given.nlib m.mark
     used = ready_used left.after.ready
@@ -91,29 +90,28 @@ module _ (n : ℕ) (h : Here) (ready : Ready h) (p : Ptr) (scope : Scope h (ptr_
     there : t.row < h.given.nlib + m.mark
     there = scope_there left.after.ready left.fits
 
-    at_row : (e : Env) (X : Option rules.Ptr) (spare : ℕ) → with_record e X ≡ env_at h → (next : Store → ℕ → Ask) →
-        ran_with n (limits_at h) e spare (sort_of X (ptr_of p) next) (tally_at h) ≡ ran_with n (limits_at h) e spare (tested next s (ptr_of t)) (tally_of h.library sc m)
-    at_row e X spare q next = answered e X spare q next ∙ ap (λ (y : Reduced). follow e spare next (res_by h.library sc (outcome_of y))) is
+    -- what is asked in the store that was left
+    abbrev asked_here : Env → ℕ → Ask → Res
+    asked_here e spare y = ran_with n (limits_at h) e spare y (tally_of h.library sc m)
 
-    pub sort_reached : (level : ℕ) → x ≡ found.Found level → Sorted n h (ptr_of p) (gave level m) sc
-    sort_reached level q =
+    pub sort_reached : {level : ℕ} → x ≡ Some level → Sorted n h (ptr_of p) (gave level m) sc
+    sort_reached {level} q =
         let row = sort_found h.library sc h.given.nlib m.mark used t there x read level q in
         record {
           says = λ e X spare q next.
-              at_row e X spare q next
-              ∙ ap (λ (y : Ask). ran_with n (limits_at h) e spare y (tally_of h.library sc m))
-              (if_a_sort (row_at s t.row) (sort_view (row_at s t.row)) level row (λ l. next s l));
+              answered ran e X spare q next
+              ∙ ap (asked_here e spare) (if_a_sort (row_at s t.row) (sort_view (row_at s t.row)) level row (λ l. next s l));
           keeps = reduced_keeps n h ready {p = p} scope ran;
           value = λ l m₁ q. value_is {In = LevelIn} left.after
               (level_in (subst (Worded (decl_count (env_at h))) row ((pass_worded left.after.ready.stand.sane.pass).each t.row))) q;
         }
 
-    pub no_sort_reached : x ≡ found.NoSort → Sorted n h (ptr_of p) (refused 9) sc
+    pub no_sort_reached : x ≡ None → Sorted n h (ptr_of p) (refused 9) sc
     unfolding run
     no_sort_reached q = record {
       says = λ e X spare w next.
-          at_row e X spare w next
-          ∙ ap (λ (y : Ask). ran_with n (limits_at h) e spare y (tally_of h.library sc m))
+          answered ran e X spare w next
+          ∙ ap (asked_here e spare)
           (if_no_sort (row_at s t.row) (sort_view (row_at s t.row)) (no_sort_found h.library sc h.given.nlib m.mark used t there x read q) (λ l. next s l));
       keeps = reduced_keeps n h ready {p = p} scope ran;
       value = λ l m₁ w. absurd (gave_apart w);

@@ -18,27 +18,28 @@ use Rattle.tables.specs.Read.{decl_read}
 use Rattle.records.specs.Read.{type_read}
 use Rattle.state.specs.declared.Given.{Given}
 use Rattle.state.specs.declared.Meter.{Meter}
-use Rattle.state.specs.declared.Reduced.{Reduced}
-use Rattle.state.specs.declared.Reduced.TheVariants.{To, Refused}
+use Rattle.state.specs.State.{Reduced}
 use Rattle.typing.specs.Here.{Here, here, env_at, store_at, Scope, Ready}
 use Rattle.typing.specs.Gives.{Outcome, gave, refused, Gives, Infers}
 use Rattle.typing.specs.Written.{Written}
-use Rattle.pieces.specs.declared.StructureFound.{StructureFound}
-use Rattle.pieces.specs.declared.StructureFound.TheVariants as found
+use Rattle.pieces.specs.declared.Structure as code
+use Rattle.std.specs.Prelude.{Err, None, Ok, Option as Maybe, Some}
+use Rattle.rows.specs.declared.refusals.Refusal.TheVariants.{NoType}
 
 -- A BODY: no value, and this move
 abbrev pub no_sub : ℕ → Sub
-no_sub by = record { value = record { row = 0; shift = 0 }; count = 0; by = by }
+no_sub by = record { value = None; by = by }
 
 pub data BodyOf (l sc : List ℕ) (g : Given) (m : Meter) (b : Ptr) (by : ℕ) : Reduced → List ℕ → Type 0 where
-  as_it_stands : {r : Reduced} {sc' : List ℕ} → by ≡ 0 → r ≡ To b m → sc' ≡ sc → BodyOf l sc g m b by r sc'
+  as_it_stands : {r : Reduced} {sc' : List ℕ} → by ≡ 0 → r ≡ Ok (b, m) → sc' ≡ sc → BodyOf l sc g m b by r sc'
   moved : {r : Reduced} {sc' : List ℕ} → (by ≡ 0 → ⊥) →
-      Written l sc m r sc' (replace_in (g.nlib + length sc / 9) (value_of (no_sub by)) by (height_of l sc m.mark b.row) 1 (store_of l sc m.mark) (ptr_of b)) →
+      Written l sc m r sc' (replace_in (g.nlib + length sc / 9) (value_of (no_sub by)) by (height_of l sc m.mark b.row) 1
+      (store_of l sc m.mark) (ptr_of b)) →
       BodyOf l sc g m b by r sc'
 
 -- A CONSTANT
 abbrev pub const_type : List ℕ → Meter → ℕ → ℕ → Reduced
-const_type ds m d levels = ite (eqb (decl_read (part 16 ds d)).levels levels) (To (type_read (part 16 ds d)) m) (Refused 9)
+const_type ds m d levels = ite (eqb (decl_read (part 16 ds d)).levels levels) (Ok (type_read (part 16 ds d), m)) (Err NoType)
 
 -- A VARIABLE: in some call with these lists
 pub record LocalReady (l cs sc : List ℕ) (g : Given) (m : Meter) (i : ℕ) : Type 0 where
@@ -69,14 +70,26 @@ pub record StructureIn (d : ℕ) (s : Store) (a : Structure) : Type 0 where
 unfoldable pub structure_ask : rules.Ptr → ℕ → (Store → Structure → Ask) → Store → Ask
 structure_ask p c next s = structures p c λ n C ys. next s (record { parameters = n; constructor = C; arguments = ys })
 
+-- the code's structure, where there is one
+abbrev pub StructureFound : Type 0
+StructureFound = Maybe code.Structure
+
+-- the code's structure, as the asks': its constructor, and the arguments of the type t
+abbrev pub parts_at : Here → Ptr → code.Structure → Structure
+parts_at h t a = record {
+  parameters = a.parameters;
+  constructor = decl_at (env_at h).decls a.constructor;
+  arguments = args_of (store_at h) (ptr_of t);
+}
+
 abbrev pub structure_outcome : Here → Ptr → StructureFound → Outcome Structure
-structure_outcome h t (found.Found ps c count) = gave (record { parameters = ps; constructor = decl_at (env_at h).decls c; arguments = args_of (store_at h) (ptr_of t) }) h.meter
-structure_outcome h t found.NoStructure = refused 9
+structure_outcome h t (Some a) = gave (parts_at h t a) h.meter
+structure_outcome h t None = refused 9
 
 -- the constructor's number names a declaration, and the count is that of the arguments
 pub record Counts (h : Here) (t : Ptr) (r : StructureFound) : Type 0 where
-  pub there : (ps c count : ℕ) → r ≡ found.Found ps c count → c < length h.decls / 16
-  pub many : (ps c count : ℕ) → r ≡ found.Found ps c count → length (args_of (store_at h) (ptr_of t)) ≡ count
+  pub there : (a : code.Structure) → r ≡ Some a → a.constructor < length h.decls / 16
+  pub many : (a : code.Structure) → r ≡ Some a → length (args_of (store_at h) (ptr_of t)) ≡ a.count
 
 pub record StructureReady (l ds sc : List ℕ) (g : Given) (m : Meter) (t : Ptr) (c : ℕ) : Type 0 where
   pub rules : List ℕ

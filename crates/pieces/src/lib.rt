@@ -14,90 +14,43 @@ ghost use Rattle.typing.specs.Here.{here, Scope, Ready};
 ghost use Rattle.typing.specs.Gives.{Gives, GivesPtr};
 ghost use Rattle.typing.specs.Pieces.{PiIn, pi_ask, Sorted, deeper};
 ghost use Rattle.typing.specs.Written.{reduced_by, Written};
-ghost use Rattle.pieces.specs.Found.{sort_outcome, pi_outcome, as_reduced_sort, as_reduced_pi};
+ghost use Rattle.pieces.specs.Found.{sort_outcome, pi_outcome};
 ghost use Rattle.pieces.specs.Leaves.{no_sub, BodyOf, const_type, LocalReady, LocalType, NumberType, StructureReady, StructureAt, Walking, parameter_ask};
 
-use records::{PiFound, SortFound, TypeFound, pi_at, sort_at, type_at, type_of};
+use records::{pi_at, sort_at, type_at, type_of};
 use reduce::side;
 use replace::{Sub, replace};
+use rows::kinds::Kind;
+use rows::refusals::{Out, Refusal};
 use rows::writer::{make, make_const, make_sort};
-use rows::{Out, Ptr, Shape, row_at, shape_of, shift_up};
+use rows::{Ptr, Shape, row_at, shape_of, shift_up};
 use spine::{argument, head_of};
-use state::{Given, Meter, NOBODY, Reduced};
-use tables::decl_at;
+use state::{Given, Meter, Reduced};
+use tables::codes::{DeclKind, Role};
+use tables::{Lent, decl_at};
 
-// A sort's level with the meter after it, or the refusal's number.
-#[derive(Clone, Copy)]
-pub enum SortTo {
-    Found(u32, Meter),
-    Refused(u32),
-}
-
-// A pi's type, shifted; its body as it stands, the shift that it is under, and the meter; or the refusal's number.
-#[derive(Clone, Copy)]
-pub enum PiTo {
-    Found(Ptr, Ptr, u32, Meter),
-    Refused(u32),
+// A pi's type, shifted; its body as it stands, and the shift that it is under.
+#[derive(Clone, Copy, Debug, PartialEq, Eq)]
+pub struct ReachedPi {
+    pub ty: Ptr,
+    pub body: Ptr,
+    pub by: u32,
 }
 
 // Parameters, the constructor's declaration, and how many arguments the type has.
-#[derive(Clone, Copy)]
-pub enum StructureFound {
-    Found(u32, u32, u32),
-    NoStructure,
-}
-
-// Refusals, handed up.
-pub fn sort_refused(r: SortTo) -> Reduced
-    ensures { result ≡ as_reduced_sort r }
-{
-    match r {
-        SortTo::Found(level, m) => {
-            return Reduced::To(
-                Ptr {
-                    row: level,
-                    shift: 0,
-                },
-                m,
-            );
-        }
-        SortTo::Refused(k) => {
-            return Reduced::Refused(k);
-        }
-    }
-}
-
-pub fn pi_refused(r: PiTo) -> Reduced
-    ensures { result ≡ as_reduced_pi r }
-{
-    match r {
-        PiTo::Found(ty, body, by, m) => {
-            return Reduced::To(ty, m);
-        }
-        PiTo::Refused(k) => {
-            return Reduced::Refused(k);
-        }
-    }
+#[derive(Clone, Copy, Debug, PartialEq, Eq)]
+pub struct Structure {
+    pub parameters: u32,
+    pub constructor: u32,
+    pub count: u32,
 }
 
 // What was written, with the steps as they were.
 fn written(o: Out, m: Meter) -> Reduced
     ensures { result ≡ reduced_by m.steps o }
 {
-    match o {
-        Out::Done(p, mark) => {
-            return Reduced::To(
-                p,
-                Meter {
-                    mark,
-                    steps: m.steps,
-                },
-            );
-        }
-        Out::Refused(k) => {
-            return Reduced::Refused(k);
-        }
-    }
+    let (p, mark) = o?;
+    Ok((p, m.at(mark)))
 }
 
 // A row.
@@ -134,13 +87,9 @@ pub fn body_of(library: &[u32], scratch: &mut [u32], g: Given, m: Meter, b: Ptr,
     ensures { BodyOf library.now scratch.old g m b by result scratch.new }
 {
     if by == 0 {
-        return Reduced::To(b, m);
+        return Ok((b, m));
     }
-    let x = Sub {
-        value: Ptr { row: 0, shift: 0 },
-        count: 0,
-        by,
-    };
+    let x = Sub { value: None, by };
     opened(library, scratch, g, m, b, 1, x)
 }
 
@@ -149,82 +98,59 @@ pub fn one_deeper(g: Given) -> Given
     requires { g.depth < 4294967295 }
     ensures { result ≡ deeper g }
 {
-    let holders = g.holders;
     Given {
-        nlib: g.nlib,
         depth: g.depth + 1,
-        steps: g.steps,
-        holders,
+        ..g
     }
 }
 
-// "reduced to a sort", one level deeper; no sort is 9.
+// "reduced to a sort", one level deeper; no sort is 9. Document 01: a side answer is taken apart by `let .. else`.
 pub fn to_sort(
-    library: &[u32],
-    decls: &[u32],
-    rules: &[u32],
-    context: &[u32],
+    lent: Lent<'_>,
     scratch: &mut [u32],
     g: Given,
     m: Meter,
     p: Ptr,
     nesting: u32,
-) -> SortTo
-    requires ready { Ready (here library.now decls.now rules.now context.now scratch.old g m) }
-    requires scope { Scope (here library.now decls.now rules.now context.now scratch.old g m) (ptr_of p) }
-    ensures { Sorted nesting (here library.now decls.now rules.now context.now
+) -> Result<(u32, Meter), Refusal>
+    requires ready { Ready (here lent.library.now lent.declarations.now lent.rules.now lent.context.now scratch.old g m) }
+    requires scope { Scope (here lent.library.now lent.declarations.now lent.rules.now lent.context.now scratch.old g m) (ptr_of p) }
+    ensures { Sorted nesting (here lent.entry.library.now lent.entry.declarations.now lent.entry.rules.now lent.entry.context.now
         scratch.old g m) (ptr_of p) (sort_outcome result) scratch.new }
 {
-    match side(library, decls, rules, context, scratch, g, m, p, nesting) {
-        Reduced::Refused(k) => {
-            return SortTo::Refused(k);
-        }
-        Reduced::To(q, m1) => {
-            match sort_at(library, &scratch[..], q) {
-                SortFound::Found(level) => {
-                    return SortTo::Found(level, m1);
-                }
-                SortFound::NoSort => {
-                    return SortTo::Refused(9);
-                }
-            }
-        }
-    }
+    let got = side(lent, scratch, g, m, p, nesting);
+    let Ok((q, after)) = got else {
+        return Err(got.unwrap_err());
+    };
+    let level = sort_at(lent.library, scratch, q).ok_or(Refusal::NoType)?;
+    Ok((level, after))
 }
 
-// "reduced if not a pi", one level deeper; no pi is 9.
+// "reduced if not a pi", one level deeper, taken apart likewise; no pi is 9.
 pub fn to_pi(
-    library: &[u32],
-    decls: &[u32],
-    rules: &[u32],
-    context: &[u32],
+    lent: Lent<'_>,
     scratch: &mut [u32],
     g: Given,
     m: Meter,
     p: Ptr,
     nesting: u32,
-) -> PiTo
-    requires ready { Ready (here library.now decls.now rules.now context.now scratch.old g m) }
-    requires scope { Scope (here library.now decls.now rules.now context.now scratch.old g m) (ptr_of p) }
-    ensures { Gives (PiIn g.depth) nesting (here library.now decls.now rules.now
-        context.now scratch.old g m) (pi_ask (ptr_of p)) (pi_outcome result) context.now scratch.new }
+) -> Result<(ReachedPi, Meter), Refusal>
+    requires ready { Ready (here lent.library.now lent.declarations.now lent.rules.now lent.context.now scratch.old g m) }
+    requires scope { Scope (here lent.library.now lent.declarations.now lent.rules.now lent.context.now scratch.old g m) (ptr_of p) }
+    ensures { Gives (PiIn g.depth) nesting (here lent.entry.library.now lent.entry.declarations.now lent.entry.rules.now
+        lent.entry.context.now scratch.old g m) (pi_ask (ptr_of p)) (pi_outcome result) lent.entry.context.now scratch.new }
 {
-    match side(library, decls, rules, context, scratch, g, m, p, nesting) {
-        Reduced::Refused(k) => {
-            return PiTo::Refused(k);
-        }
-        Reduced::To(q, m1) => {
-            match pi_at(library, &scratch[..], q) {
-                PiFound::Found(ty, body) => {
-                    let shifted = shift_up(library, &scratch[..], ty, q.shift);
-                    return PiTo::Found(shifted, body, q.shift, m1);
-                }
-                PiFound::NoPi => {
-                    return PiTo::Refused(9);
-                }
-            }
-        }
-    }
+    let got = side(lent, scratch, g, m, p, nesting);
+    let Ok((q, after)) = got else {
+        return Err(got.unwrap_err());
+    };
+    let pi = pi_at(lent.library, scratch, q).ok_or(Refusal::NoType)?;
+    let opened = ReachedPi {
+        ty: shift_up(lent.library, scratch, pi.ty, q.shift),
+        body: pi.body,
+        by: q.shift,
+    };
+    Ok((opened, after))
 }
 
 // "Sort n: sort n + 1."
@@ -243,9 +169,9 @@ pub fn infer_const(decls: &[u32], m: Meter, d: u32, levels: u32) -> Reduced
     ensures { result ≡ const_type decls.now m d levels }
 {
     if decl_at(decls, d).levels != levels {
-        return Reduced::Refused(9);
+        return Err(Refusal::NoType);
     }
-    Reduced::To(type_at(decls, d), m)
+    Ok((type_at(decls, d), m))
 }
 
 // "Variable i: its context type shifted i + 1."
@@ -260,11 +186,8 @@ pub fn infer_local<'a>(
     requires { LocalReady library.now context.now scratch.now g m i }
     ensures { LocalType library.now context.now scratch.now g m i result }
 {
-    let found = type_of(context, g.depth, i);
-    let TypeFound::Found(ty) = found else {
-        return Reduced::Refused(9);
-    };
-    Reduced::To(shift_up(library, scratch, ty, i + 1), m)
+    let ty = type_of(context, g.depth, i).ok_or(Refusal::NoType)?;
+    Ok((shift_up(library, scratch, ty, i + 1), m))
 }
 
 // "Number: constant Nat."
@@ -272,11 +195,7 @@ pub fn infer_number(library: &[u32], scratch: &mut [u32], g: Given, m: Meter) ->
     requires { Held library.now scratch.old m.mark g.nlib }
     ensures { NumberType library.now scratch.old g m result scratch.new }
 {
-    let holders = g.holders;
-    let nat = holders[1];
-    if nat == NOBODY {
-        return Reduced::Refused(9);
-    }
+    let nat = g.holders.holder(Role::Nat).ok_or(Refusal::NoType)?;
     written(make_const(library, scratch, g.nlib, m.mark, nat, 0), m)
 }
 
@@ -289,36 +208,36 @@ pub fn structure_at<'a>(
     m: Meter,
     t: Ptr,
     c: u32,
-) -> StructureFound
+) -> Option<Structure>
     requires { StructureReady library.now decls.now scratch.now g m t c }
     ensures { StructureAt library.now decls.now scratch.now g m t c result }
 {
     let s = head_of(library, scratch, t);
-    let h = s.head;
-    let w = shape_of(row_at(library, scratch, h.row));
+    let w = shape_of(row_at(library, scratch, s.head.row));
     let words = w.first;
-    if w.kind != 2 {
-        return StructureFound::NoStructure;
+    if w.kind != Kind::Constant.into() {
+        return None;
     }
     if words.row != c {
-        return StructureFound::NoStructure;
+        return None;
     }
     let d = decl_at(decls, c);
-    if d.kind != 3 {
-        return StructureFound::NoStructure;
+    if d.kind != Some(DeclKind::Structure) {
+        return None;
     }
     if decl_at(decls, d.second).levels != words.shift {
-        return StructureFound::NoStructure;
+        return None;
     }
-    StructureFound::Found(d.parameters, d.second, s.count)
+    Some(Structure {
+        parameters: d.parameters,
+        constructor: d.second,
+        count: s.count,
+    })
 }
 
 // One parameter of the constructor's type w: the argument at i of the structure's type t replaced in; no argument is 9, after the pi.
 fn parameter(
-    library: &[u32],
-    decls: &[u32],
-    rules: &[u32],
-    context: &[u32],
+    lent: Lent<'_>,
     scratch: &mut [u32],
     g: Given,
     m: Meter,
@@ -328,34 +247,27 @@ fn parameter(
     i: u32,
     nesting: u32,
 ) -> Reduced
-    requires ready { Ready (here library.now decls.now rules.now context.now scratch.old g m) }
-    requires walking { Walking (here library.now decls.now rules.now context.now scratch.old g m) w t count }
-    ensures { GivesPtr nesting (here library.now decls.now rules.now context.now
-        scratch.old g m) (parameter_ask (ptr_of w) (args_of (store_of library.now scratch.old m.mark) (ptr_of t)) i) result
-        context.now scratch.new }
+    requires ready { Ready (here lent.library.now lent.declarations.now lent.rules.now lent.context.now scratch.old g m) }
+    requires walking { Walking (here lent.library.now lent.declarations.now lent.rules.now lent.context.now scratch.old g m) w t count }
+    ensures { GivesPtr nesting (here lent.entry.library.now lent.entry.declarations.now lent.entry.rules.now lent.entry.context.now
+        scratch.old g m) (parameter_ask (ptr_of w) (args_of (store_of lent.entry.library.now scratch.old m.mark) (ptr_of t)) i) result
+        lent.entry.context.now scratch.new }
 {
-    let got = to_pi(library, decls, rules, context, scratch, g, m, w, nesting);
-    let PiTo::Found(ty, body, by, m1) = got else {
-        return pi_refused(got);
-    };
+    let (pi, after) = to_pi(lent, scratch, g, m, w, nesting)?;
     if count <= i {
-        return Reduced::Refused(9);
+        return Err(Refusal::NoType);
     }
-    let a = argument(library, &scratch[..], t, count, i);
+    let a = argument(lent.library, scratch, t, count, i);
     let x = Sub {
-        value: a,
-        count: 1,
-        by,
+        value: Some(a),
+        by: pi.by,
     };
-    opened(library, scratch, g, m1, body, 0, x)
+    opened(lent.library, scratch, g, after, pi.body, 0, x)
 }
 
 // "walked through the parameters, reduced before each parameter"
 pub fn walk_parameters(
-    library: &[u32],
-    decls: &[u32],
-    rules: &[u32],
-    context: &[u32],
+    lent: Lent<'_>,
     scratch: &mut [u32],
     g: Given,
     m: Meter,
@@ -365,25 +277,16 @@ pub fn walk_parameters(
     count: u32,
     nesting: u32,
 ) -> Reduced
-    requires ready { Ready (here library.now decls.now rules.now context.now scratch.old g m) }
-    requires walking { Walking (here library.now decls.now rules.now context.now scratch.old g m) w t count }
-    ensures { GivesPtr nesting (here library.now decls.now rules.now context.now
-        scratch.old g m) (parameters many (args_of (store_of library.now scratch.old m.mark) (ptr_of t))
-        (store_of library.now scratch.old m.mark) (ptr_of w)) result context.now scratch.new }
+    requires ready { Ready (here lent.library.now lent.declarations.now lent.rules.now lent.context.now scratch.old g m) }
+    requires walking { Walking (here lent.library.now lent.declarations.now lent.rules.now lent.context.now scratch.old g m) w t count }
+    ensures { GivesPtr nesting (here lent.entry.library.now lent.entry.declarations.now lent.entry.rules.now lent.entry.context.now
+        scratch.old g m) (parameters many (args_of (store_of lent.entry.library.now scratch.old m.mark) (ptr_of t))
+        (store_of lent.entry.library.now scratch.old m.mark) (ptr_of w)) result lent.entry.context.now scratch.new }
 {
     let mut at = w;
     let mut meter = m;
-    let mut i = 0;
-    while i < many {
-        let got = parameter(
-            library, decls, rules, context, scratch, g, meter, at, t, count, i, nesting,
-        );
-        let Reduced::To(next, m1) = got else {
-            return got;
-        };
-        at = next;
-        meter = m1;
-        i += 1;
+    for i in 0..many {
+        (at, meter) = parameter(lent, scratch, g, meter, at, t, count, i, nesting)?;
     }
-    Reduced::To(at, meter)
+    Ok((at, meter))
 }

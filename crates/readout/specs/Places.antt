@@ -10,7 +10,7 @@ raised false shift i = i
 
 -- the last k entries of a path, two words each: the binders crossed to a shifted pointer, and its shift; `binders` is their count where
 -- the variable stands
-unfoldable pub carried_by : List ℕ → ℕ → ℕ → ℕ → ℕ
+abbrev pub carried_by : List ℕ → ℕ → ℕ → ℕ → ℕ
 carried_by path binders zero i = i
 carried_by path binders (suc k) i =
     carried_by path binders k (raised (leb (binders - get_or path (2 * k) 0) i) (get_or path (2 * k + 1) 0) i)

@@ -2,57 +2,64 @@
 // shared may take any number of bytes, and no more time is spent on it than the buffer has room for.
 #![tactic(auto)]
 
-ghost use Rattle.std.specs.Prelude.{◌≡◌, ◌+◌, ◌*◌, ◌-◌, ◌≤◌, ◌<◌, leb, length};
+ghost use Rattle.std.specs.Prelude.{◌≡◌, ◌+◌, ◌*◌, ◌-◌, ◌≤◌, ◌<◌, leb, IfSome};
 ghost use Rattle.readout.specs.Places.{raised, carried_by, Whole, Room, RoomBelow};
 
-use out::{Next, put, put_number, put_text};
-use rows::kinds::{BODY, PLAIN, field_tag};
+use out::{put, put_number, put_text};
+use rows::kinds::{Kind, Tag, field_tag};
 use rows::{Ptr, Shape, row_at, shape_of};
 
 pub mod out;
 pub mod sum;
 
-// The kinds of rows that are told apart; of those with children the rest is a projection.
-const VARIABLE: u32 = 0;
-
-const SORT: u32 = 1;
-
-const CONSTANT: u32 = 2;
-
-const APPLICATION: u32 = 3;
-
-const LAMBDA: u32 = 4;
-
-const PI: u32 = 5;
-
-const LET: u32 = 6;
-
-const NUMBER: u32 = 8;
-
-const NO_KIND: u32 = 9;
-
 // Rows are at most this high, so no path down the rows is longer.
 const MOST_HIGH: u32 = 2000;
 
-// Two words for each shifted pointer on a path.
+// Two words for each shifted pointer on a path; `Place` counts them, since there is no heap.
 const PATH_WORDS: usize = 4000;
 
 // Where the writer stands: binders crossed from the top, shifted pointers passed, and levels that may follow.
-#[derive(Clone, Copy)]
+#[derive(Clone, Copy, Debug, PartialEq, Eq)]
 pub struct Place {
     pub binders: u32,
     pub shifted: u32,
     pub levels: u32,
 }
 
-// Binders crossed since a place further up.
-fn since(binders: u32, then: u32) -> u64
-    ensures { result ≡ binders - then }
-{
-    if binders < then {
-        return 0;
+impl Place {
+    // The place of a row whose pointer is shifted; the path gets its two words.
+    fn at_shifted(self, path: &mut [u32; PATH_WORDS], shift: u32) -> Place
+        requires levels_nonzero { 0 < self.levels }
+        requires room { Room self }
+        ensures room_below { RoomBelow result }
+        ensures levels_value { result.levels ≡ self.levels }
+    {
+        if shift == 0 {
+            return self;
+        }
+        let at = 2 * (self.shifted as usize);
+        path[at] = self.binders;
+        path[at + 1] = shift;
+        Place {
+            shifted: self.shifted + 1,
+            ..self
+        }
     }
-    (binders - then) as u64
+
+    // The place of a child.
+    fn below(self, tag: Tag) -> Place
+        requires levels_nonzero { 0 < self.levels }
+        requires binders_bound { self.binders < 2000 }
+        ensures levels_value { result.levels + 1 ≡ self.levels }
+        ensures shifted_value { result.shifted ≡ self.shifted }
+        ensures at_most_one_more { result.binders ≤ self.binders + 1 }
+    {
+        Place {
+            binders: self.binders + u32::from(tag == Tag::Body),
+            levels: self.levels - 1,
+            ..self
+        }
+    }
 }
 
 // An index that is loose at a shifted pointer, where `then` binders were crossed, goes up by its shift: it is at least the count of
@@ -62,180 +69,71 @@ fn raise(index: u64, binders: u32, then: u32, shift: u32) -> u64
     ensures value { result ≡ raised (leb (binders - then) index) shift index }
     ensures upper_bound { result ≤ index + 4294967295 }
 {
-    if since(binders, then) <= index {
-        return index + (shift as u64);
+    if u64::from(binders.saturating_sub(then)) <= index {
+        index + u64::from(shift)
+    } else {
+        index
     }
-    index
 }
 
 // A variable's index with the shifts of the path carried out, innermost first.
-fn carried(path: &[u32], place: Place, index: u32) -> u64
-    requires shifted_bound { place.shifted ≤ 2000 }
-    requires path_len { length path.now ≡ 4000 }
+fn carried(path: &[u32; PATH_WORDS], place: Place, index: u32) -> u64
+    requires { place.shifted ≤ 2000 }
     ensures { result ≡ carried_by path.now place.binders place.shifted index }
 {
-    let binders = place.binders;
-    let mut i = place.shifted as usize;
-    let mut carried = index as u64;
-    while 0 < i {
-        i -= 1;
-        carried = raise(carried, binders, path[2 * i], path[2 * i + 1]);
+    let mut carried = u64::from(index);
+    for i in (0..place.shifted as usize).rev() {
+        carried = raise(carried, place.binders, path[2 * i], path[2 * i + 1]);
     }
     carried
 }
 
 // A letter and one number.
-fn put_named(letter: u8, number: u64, out: &mut [u8], at: usize) -> Next {
-    let named = put(out, at, letter);
-    let Next::At(n) = named else {
-        return Next::Full;
-    };
-    put_number(out, n, number)
+fn put_named(letter: u8, number: u64, out: &mut [u8], at: usize) -> Option<usize> {
+    let at = put(out, at, letter)?;
+    put_number(out, at, number)
 }
 
 // With a dot and the count of levels where any are given.
-fn put_constant(words: Ptr, out: &mut [u8], at: usize) -> Next {
-    let named = put_named(b'c', words.row as u64, out, at);
+fn put_constant(words: Ptr, out: &mut [u8], at: usize) -> Option<usize> {
+    let at = put_named(b'c', u64::from(words.row), out, at)?;
     if words.shift == 0 {
-        return named;
+        return Some(at);
     }
-    let Next::At(n) = named else {
-        return Next::Full;
-    };
-    put_named(b'.', words.shift as u64, out, n)
+    put_named(b'.', u64::from(words.shift), out, at)
 }
 
-fn is_leaf(kind: u32) -> bool {
-    match kind {
-        VARIABLE | SORT | CONSTANT | NUMBER => true,
-        _ => false,
-    }
+// A number of two words, the low one first.
+fn put_value(words: Ptr, out: &mut [u8], at: usize) -> Option<usize> {
+    let value = 0x1_0000_0000 * u64::from(words.shift) + u64::from(words.row);
+    put_named(b'n', value, out, at)
 }
 
-// A row without children.
-fn put_leaf(w: Shape, place: Place, path: &[u32], out: &mut [u8], at: usize) -> Next
-    requires shifted_bound { place.shifted ≤ 2000 }
-    requires path_len { length path.now ≡ 4000 }
-{
-    let kind = w.kind;
-    let words = w.first;
-    match kind {
-        VARIABLE => {
-            return put_named(b'v', carried(path, place, words.row), out, at);
-        }
-        SORT => {
-            return put_named(b's', words.row as u64, out, at);
-        }
-        CONSTANT => {
-            return put_constant(words, out, at);
-        }
-        _ => {
-            let value = 0x1_0000_0000 * (words.shift as u64) + (words.row as u64);
-            return put_named(b'n', value, out, at);
-        }
-    }
+fn put_projection(words: Ptr, out: &mut [u8], at: usize) -> Option<usize> {
+    let at = put_text(out, at, b"(proj")?;
+    let at = put_named(b' ', u64::from(words.row), out, at)?;
+    put_named(b' ', u64::from(words.shift), out, at)
 }
 
-fn put_projection(words: Ptr, out: &mut [u8], at: usize) -> Next {
-    let opened = put_text(out, at, b"(proj");
-    let Next::At(n) = opened else {
-        return Next::Full;
-    };
-    let typed = put_named(b' ', words.row as u64, out, n);
-    let Next::At(m) = typed else {
-        return Next::Full;
-    };
-    put_named(b' ', words.shift as u64, out, m)
-}
-
-// What stands before the children.
-fn put_opening(w: Shape, out: &mut [u8], at: usize) -> Next {
-    let kind = w.kind;
-    match kind {
-        APPLICATION => {
-            return put_text(out, at, b"(@");
-        }
-        LAMBDA => {
-            return put_text(out, at, b"(lam");
-        }
-        PI => {
-            return put_text(out, at, b"(pi");
-        }
-        LET => {
-            return put_text(out, at, b"(let");
-        }
-        _ => {
-            return put_projection(w.second, out, at);
-        }
-    }
-}
-
-// The place of a row whose pointer is shifted.
-fn shifted_here(path: &mut [u32], place: Place, shift: u32) -> Place
-    requires levels_nonzero { 0 < place.levels }
-    requires room { Room place }
-    requires path_len { length path.old ≡ 4000 }
-    ensures room_below { RoomBelow result }
-    ensures levels_value { result.levels ≡ place.levels }
-{
-    if shift == 0 {
-        return place;
-    }
-    let at = 2 * (place.shifted as usize);
-    path[at] = place.binders;
-    path[at + 1] = shift;
-    Place {
-        binders: place.binders,
-        shifted: place.shifted + 1,
-        levels: place.levels,
-    }
-}
-
-// The place of a child.
-fn below(place: Place, tag: u8) -> Place
-    requires levels_nonzero { 0 < place.levels }
-    requires binders_bound { place.binders < 2000 }
-    ensures levels_value { result.levels + 1 ≡ place.levels }
-    ensures shifted_value { result.shifted ≡ place.shifted }
-    ensures binders_bound_2 { result.binders ≤ place.binders + 1 }
-{
-    let binders = place.binders;
-    if tag == BODY {
-        return Place {
-            binders: binders + 1,
-            shifted: place.shifted,
-            levels: place.levels - 1,
-        };
-    }
-    Place {
-        binders,
-        shifted: place.shifted,
-        levels: place.levels - 1,
-    }
-}
-
-// A row's kind and pairs; the kind is no kind where the row does not stand.
-fn shape_at<'a>(library: &'a [u32], scratch: &'a [u32], row: u32) -> Shape
+// A row's kind and pairs, where it stands and has a kind.
+fn shape_at<'a>(library: &'a [u32], scratch: &'a [u32], row: u32) -> Option<Shape>
     requires { Whole library.now scratch.now }
+    ensures { IfSome result (λ w. w.kind ≤ 8) }
 {
     let at = 9 * (row as usize);
-    if at < library.len() {
-        return shape_of(row_at(library, scratch, row));
+    if library.len() + scratch.len() <= at {
+        return None;
     }
-    if at - library.len() < scratch.len() {
-        return shape_of(row_at(library, scratch, row));
-    }
-    let none = Ptr { row: 0, shift: 0 };
-    Shape {
-        kind: NO_KIND,
-        first: none,
-        second: none,
-        third: none,
+    let w = shape_of(row_at(library, scratch, row));
+    if Kind::try_from(w.kind).is_ok() {
+        Some(w)
+    } else {
+        None
     }
 }
 
 // A child after a blank; nothing for a field of plain words.
-#[cycle(put_field_put_term)]
+#[cycle(put_term)]
 fn put_field<'a>(
     library: &'a [u32],
     scratch: &'a [u32],
@@ -243,78 +141,70 @@ fn put_field<'a>(
     j: u32,
     p: Ptr,
     place: Place,
-    path: &mut [u32],
+    path: &mut [u32; PATH_WORDS],
     out: &mut [u8],
     at: usize,
-) -> Next
+) -> Option<usize>
     requires kind_bound { (kind ≤ 8) × (j < 3) }
     requires whole { Whole library.now scratch.now }
     requires room_below { RoomBelow place }
-    requires path_len { length path.old ≡ 4000 }
 {
     let tag = field_tag(kind, j);
-    if tag == PLAIN {
-        return Next::At(at);
+    if tag == Tag::Plain {
+        return Some(at);
     }
-    let spaced = put(out, at, b' ');
-    let Next::At(n) = spaced else {
-        return Next::Full;
-    };
-    put_term(library, scratch, p, below(place, tag), path, out, n)
+    let at = put(out, at, b' ')?;
+    put_term(library, scratch, p, place.below(tag), path, out, at)
 }
 
 // A pointer's term: a row without children, or its opening, its children and the bracket that closes it.
-#[cycle(put_field_put_term)]
+#[cycle(put_term)]
 fn put_term<'a>(
     library: &'a [u32],
     scratch: &'a [u32],
     p: Ptr,
     place: Place,
-    path: &mut [u32],
+    path: &mut [u32; PATH_WORDS],
     out: &mut [u8],
     at: usize,
-) -> Next
+) -> Option<usize>
     requires whole { Whole library.now scratch.now }
     requires room { Room place }
-    requires path_len { length path.old ≡ 4000 }
 {
     if place.levels == 0 {
-        return Next::Full;
+        return None;
     }
-    let w = shape_at(library, scratch, p.row);
-    let kind = w.kind;
-    if NO_KIND <= kind {
-        return Next::Full;
-    }
-    let here = shifted_here(path, place, p.shift);
-    if is_leaf(kind) {
-        return put_leaf(w, here, &path[..], out, at);
-    }
-    let Next::At(a) = put_opening(w, out, at) else {
-        return Next::Full;
+    let w = shape_at(library, scratch, p.row)?;
+    let here = place.at_shifted(path, p.shift);
+    let at = match Kind::known(w.kind) {
+        Kind::Variable => return put_named(b'v', carried(path, here, w.first.row), out, at),
+        Kind::Sort => return put_named(b's', u64::from(w.first.row), out, at),
+        Kind::Constant => return put_constant(w.first, out, at),
+        Kind::Number => return put_value(w.first, out, at),
+        Kind::Application => put_text(out, at, b"(@")?,
+        Kind::Lambda => put_text(out, at, b"(lam")?,
+        Kind::Pi => put_text(out, at, b"(pi")?,
+        Kind::Let => put_text(out, at, b"(let")?,
+        Kind::Projection => put_projection(w.second, out, at)?,
     };
-    let Next::At(b) = put_field(library, scratch, kind, 0, w.first, here, path, out, a) else {
-        return Next::Full;
-    };
-    let Next::At(c) = put_field(library, scratch, kind, 1, w.second, here, path, out, b) else {
-        return Next::Full;
-    };
-    let Next::At(d) = put_field(library, scratch, kind, 2, w.third, here, path, out, c) else {
-        return Next::Full;
-    };
-    put(out, d, b')')
+    let at = put_field(library, scratch, w.kind, 0, w.first, here, path, out, at)?;
+    let at = put_field(library, scratch, w.kind, 1, w.second, here, path, out, at)?;
+    let at = put_field(library, scratch, w.kind, 2, w.third, here, path, out, at)?;
+    put(out, at, b')')
 }
 
-// The read-out of t from the buffer's front: where it ends, or Full where there is no room for it. All rows of a table that is accepted
-// can be read; what else is lent is answered Full too.
-pub fn read_out<'a>(library: &'a [u32], scratch: &'a [u32], t: Ptr, out: &mut [u8]) -> Next {
-    if library.len() % 9 != 0 {
-        return Next::Full;
+// The read-out of t from the buffer's front: where it ends, or None where there is no room for it. All rows of a table that is accepted
+// can be read; what else is lent is answered None too.
+pub fn read_out<'a>(
+    library: &'a [u32],
+    scratch: &'a [u32],
+    t: Ptr,
+    out: &mut [u8],
+) -> Option<usize> {
+    if library.len() % 9 != 0 || scratch.len() % 9 != 0 {
+        return None;
     }
-    if scratch.len() % 9 != 0 {
-        return Next::Full;
-    }
-    let mut path = [0u32; PATH_WORDS];
+    let mut path = [0; PATH_WORDS];
     let top = Place {
         binders: 0,
         shifted: 0,

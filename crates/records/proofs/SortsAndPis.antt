@@ -2,11 +2,12 @@
 -- Assumes, for the store's rows, that the words in use are rows of the rules: a kind over 8 would be read as sort 0.
 use Prim.Native.Nat.{ℕ, ◌+◌, ◌≤◌, ◌<◌}
 use native.Mathlib.Omega.{arith}
-use mathlib.Core.Path.{◌≡◌, refl, sym, ap, ap₂, ◌∙◌}
+use mathlib.Core.Path.{◌≡◌, refl, sym, ap, ◌∙◌}
 use mathlib.Core.Bool.{Bool, true, false}
 use mathlib.Core.List.{List}
-use borrow.Author.Tests.{eq-eqb, ne_eqb, eqb-true}
+use borrow.Author.Tests.{eq-eqb, eqb-true}
 use lib.Dec.{eqb}
+use Rattle.std.specs.Prelude.{Option as Maybe, Some, None}
 use Rattle.rules.specs.Kinds.{sort, const, app, lam, pi, let', proj, num, table}
 use Rattle.rules.specs.Rows as rules
 use Rattle.rules.specs.Rows.{Row, var, node, leaf, blank, row_at}
@@ -18,54 +19,21 @@ use Rattle.rows.proofs.Store.{used_stands, row_used, held_length}
 use Rattle.rows.proofs.Formed.{row_formed}
 use Rattle.rows.proofs.NineKinds.{each_kind}
 use Rattle.state.specs.State.{Used}
-use Rattle.records.specs.declared.SortFound.{SortFound}
-use Rattle.records.specs.declared.SortFound.TheVariants as sort_variants
-use Rattle.records.specs.declared.PiFound.{PiFound}
-use Rattle.records.specs.declared.PiFound.TheVariants as pi_variants
+use Rattle.records.specs.declared.Pi.{Pi}
 use Rattle.records.specs.Read.{sort_read, pi_read}
 
--- THE READERS' TWO ANSWERS
+-- WHAT AN ANSWER BY A KIND SAYS OF THE KIND WORD
 
-module _ (w v : Shape) (read : w ≡ v) where
-  pub a_sort : w.kind ≡ 1 → sort_variants.Found w.first.row ≡ sort_read v
-  unfolding sort_read
-  a_sort e = sym (ap (λ (b : Bool). ite b (sort_variants.Found w.first.row) sort_variants.NoSort) (eq-eqb w.kind 1 e)) ∙ ap sort_read read
+module _ {A : Type 0} (n kind : ℕ) (x : A) where
+  pub of_kind : (y : A) → ite (eqb n kind) (Some x) None ≡ Some y → (n ≡ kind) × (x ≡ y)
+  of_kind y = go (eqb n kind) refl
+    where
+      go : (b : Bool) → eqb n kind ≡ b → ite b (Some x) None ≡ Some y → (n ≡ kind) × (x ≡ y)
+      go true e q = (eqb-true n kind e, cc)
+      go false e q = cc
 
-  pub not_a_sort : (w.kind ≡ 1 → ⊥) → sort_variants.NoSort ≡ sort_read v
-  unfolding sort_read
-  not_a_sort f = sym (ap (λ (b : Bool). ite b (sort_variants.Found w.first.row) sort_variants.NoSort) (ne_eqb w.kind 1 f)) ∙ ap sort_read read
-
-  pub a_pi : w.kind ≡ 5 → pi_variants.Found w.first w.second ≡ pi_read v
-  unfolding pi_read
-  a_pi e = sym (ap (λ (b : Bool). ite b (pi_variants.Found w.first w.second) pi_variants.NoPi) (eq-eqb w.kind 5 e)) ∙ ap pi_read read
-
-  pub not_a_pi : (w.kind ≡ 5 → ⊥) → pi_variants.NoPi ≡ pi_read v
-  unfolding pi_read
-  not_a_pi f = sym (ap (λ (b : Bool). ite b (pi_variants.Found w.first w.second) pi_variants.NoPi) (ne_eqb w.kind 5 f)) ∙ ap pi_read read
-
--- WHAT AN ANSWER SAYS OF THE WORDS
-
-sort_words : (w : Shape) (level : ℕ) → sort_read w ≡ sort_variants.Found level → (w.kind ≡ 1) × (w.first.row ≡ level)
-unfolding sort_read
-sort_words w level = go (eqb w.kind 1) refl
-  where
-    go : (b : Bool) → eqb w.kind 1 ≡ b → ite b (sort_variants.Found w.first.row) sort_variants.NoSort ≡ sort_variants.Found level → (w.kind ≡ 1) × (w.first.row ≡ level)
-    go true e q = (eqb-true w.kind 1 e, cc)
-    go false e q = absurd (let z : ◌≡◌ {A = ℕ} 0 1 = cc in omega arith)
-
-no_sort_words : (w : Shape) → sort_read w ≡ sort_variants.NoSort → w.kind ≡ 1 → ⊥
-no_sort_words w q e = let z : ◌≡◌ {A = ℕ} 0 1 = cc (a_sort w w refl e) in omega arith
-
-pi_words : (w : Shape) (x b : Ptr) → pi_read w ≡ pi_variants.Found x b → (w.kind ≡ 5) × (w.first ≡ x) × (w.second ≡ b)
-unfolding pi_read
-pi_words w x b = go (eqb w.kind 5) refl
-  where
-    go : (t : Bool) → eqb w.kind 5 ≡ t → ite t (pi_variants.Found w.first w.second) pi_variants.NoPi ≡ pi_variants.Found x b → (w.kind ≡ 5) × (w.first ≡ x) × (w.second ≡ b)
-    go true e q = (eqb-true w.kind 5 e, cc, cc)
-    go false e q = absurd (let z : ◌≡◌ {A = ℕ} 0 1 = cc in omega arith)
-
-no_pi_words : (w : Shape) → pi_read w ≡ pi_variants.NoPi → w.kind ≡ 5 → ⊥
-no_pi_words w q e = let z : ◌≡◌ {A = ℕ} 0 1 = cc (a_pi w w refl e) in omega arith
+  pub of_no_kind : ite (eqb n kind) (Some x) None ≡ None → n ≡ kind → ⊥
+  of_no_kind q e = let z : ite true (Some x) None ≡ None = rw (eq-eqb n kind e) at q in cc
 
 -- WHICH ROW A KIND WORD GIVES
 
@@ -120,21 +88,26 @@ module _ (l sc : List ℕ) (nlib m : ℕ) (used : Used l sc nlib m) (q : Ptr) (t
       ∙ ap kind_number (sym row_is ∙ e)
 
   -- `sort_at` answered r
-  module _ (r : SortFound) (read : r ≡ sort_read words) where
-    pub sort_found : (level : ℕ) → r ≡ sort_variants.Found level → row ≡ leaf (sort level)
+  module _ (r : Maybe ℕ) (read : r ≡ sort_read words) where
+    pub sort_found : (level : ℕ) → r ≡ Some level → row ≡ leaf (sort level)
+    unfolding sort_read
     sort_found level e =
-        let said = sort_words words level (sym read ∙ e) in
+        let said = of_kind words.kind 1 words.first.row level (sym read ∙ e) in
         row_by_lem 1 said.0 ∙ sort_row _ _ _ ∙ ap (λ (n : ℕ). leaf (sort n)) said.1
 
-    pub no_sort_found : r ≡ sort_variants.NoSort → (level : ℕ) (x y z : rules.Ptr) → row ≡ node (sort level) x y z → ⊥
-    no_sort_found e level x y z is = no_sort_words words (sym read ∙ e) (kind_is (node (sort level) x y z) is)
+    pub no_sort_found : r ≡ None → (level : ℕ) (x y z : rules.Ptr) → row ≡ node (sort level) x y z → ⊥
+    unfolding sort_read
+    no_sort_found e level x y z is = of_no_kind words.kind 1 words.first.row (sym read ∙ e) (kind_is (node (sort level) x y z) is)
 
   -- `pi_at` answered r
-  module _ (r : PiFound) (read : r ≡ pi_read words) where
-    pub pi_found : (x b : Ptr) → r ≡ pi_variants.Found x b → row ≡ node pi (ptr_of x) (ptr_of b) blank
-    pi_found x b e =
-        let said = pi_words words x b (sym read ∙ e) in
-        row_by_lem 5 said.0 ∙ pi_row _ _ _ ∙ ap₂ (λ (u v : Ptr). node pi (ptr_of u) (ptr_of v) blank) said.1 said.2
+  module _ (r : Maybe Pi) (read : r ≡ pi_read words) where
+    pub pi_found : (p : Pi) → r ≡ Some p → row ≡ node pi (ptr_of p.ty) (ptr_of p.body) blank
+    unfolding pi_read
+    pi_found p e =
+        let said = of_kind words.kind 5 (record { ty = words.first; body = words.second }) p (sym read ∙ e) in
+        row_by_lem 5 said.0 ∙ pi_row _ _ _ ∙ ap (λ (q : Pi). node pi (ptr_of q.ty) (ptr_of q.body) blank) said.1
 
-    pub no_pi_found : r ≡ pi_variants.NoPi → (x b z : rules.Ptr) → row ≡ node pi x b z → ⊥
-    no_pi_found e x b z is = no_pi_words words (sym read ∙ e) (kind_is (node pi x b z) is)
+    pub no_pi_found : r ≡ None → (x b z : rules.Ptr) → row ≡ node pi x b z → ⊥
+    unfolding pi_read
+    no_pi_found e x b z is =
+        of_no_kind words.kind 5 (record { ty = words.first; body = words.second }) (sym read ∙ e) (kind_is (node pi x b z) is)

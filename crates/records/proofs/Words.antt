@@ -1,34 +1,15 @@
--- A record's five words in a list: written in front, written at a place, and read again; what stands before and after them.
+-- A record that was written at a place of a list: what stands there, and what stands before it.
 -- Assumes nothing.
 use Prim.Native.Nat.{ℕ, zero, suc, ◌+◌, ◌*◌, ◌-◌, ◌≤◌, ◌<◌}
 use native.Mathlib.Nat.{suc-add, zero-add}
 use native.Mathlib.Omega.{arith}
 use mathlib.Core.Path.{◌≡◌, sym, ap, ◌∙◌}
-use mathlib.Core.List.{List, [], ◌∷◌, ◌++◌, append-nil}
-use borrow.Rule.Slice.PartMut.{mid_of, put_mid}
-use lib.ListN.{length, set, take, drop, length-append, length-drop, drop_of_length-le}
-use lib.Seq.{take-nil, take_all, take-take, take_at, drop_at, drop-drop, length-take-le, sets-eq}
+use mathlib.Core.List.{List, [], ◌∷◌, ◌++◌}
+use lib.ListN.{length, take, drop, length-append, length-drop}
+use lib.Seq.{take-nil, take-take, take_at, drop_at, length-take-le}
 use Rattle.rules.specs.Accepted.{part}
 use Rattle.rows.specs.declared.Ptr.{Ptr}
 use Rattle.records.specs.Write.{record_of, pushed}
-
--- five stores at the front, one after the other
-pub five_stored : (x : Ptr) (xs : List ℕ) → 5 ≤ length xs →
-    set (set (set (set (set xs 0 x.row) 1 x.shift) 2 0) 3 0) 4 0 ≡ record_of x ++ drop 5 xs
-five_stored x xs h = sets-eq (record_of x) xs 0 h
-
--- a list whose end from `at` on is rewritten at the front, in its first n words
-pasted : (xs ws ys : List ℕ) (at n : ℕ) → at ≤ length xs → ys ≡ ws ++ drop n (mid_of at (length xs - at) xs) →
-    put_mid at (length xs - at) xs ys ≡ take at xs ++ (ws ++ drop (at + n) xs)
-pasted xs ws ys at n h e =
-    let end : length (drop at xs) ≤ length xs - at = simp length-drop (omega arith) in
-    let rest : mid_of at (length xs - at) xs ≡ drop at xs = take_all (length xs - at) (drop at xs) end in
-    let none : drop (length xs - at) (drop at xs) ≡ [] = drop_of_length-le (drop at xs) end in
-    rw (e, rest, none, drop-drop, append-nil)
-
-pub record_pasted : (cs ys : List ℕ) (depth : ℕ) (x : Ptr) → 5 * depth ≤ length cs →
-    ys ≡ record_of x ++ drop 5 (mid_of (5 * depth) (length cs - 5 * depth) cs) → put_mid (5 * depth) (length cs - 5 * depth) cs ys ≡ pushed cs depth x
-record_pasted cs ys depth x h e = pasted cs (record_of x) ys (5 * depth) 5 h e
 
 -- AFTER A PUSH
 

@@ -1,157 +1,126 @@
--- Arithmetic's tests against the rules': the code tries a role where the rules try its operation, and an operation that is tried has an outcome.
+-- Arithmetic's tests against the rules': an operation that the code tries is the rules' and is tried there, and what is tried has an outcome.
 -- Assumes a table of holders that the environment agrees with.
-use Prim.Native.Nat.{ℕ, ◌+◌, ◌*◌, ◌-◌, ◌/◌, ◌%◌, ◌^◌, ◌≤◌}
-use native.Mathlib.Omega as O
+use Prim.Native.Nat.{ℕ, ◌/◌, ◌-◌, ◌%◌, ◌^◌}
 use mathlib.Core.Path.{◌≡◌, refl, sym, ap, ◌∙◌}
-use mathlib.Core.Bool.{Bool, true, false, not}
+use mathlib.Core.Bool.{Bool, true, false}
 use mathlib.Core.List.{List}
 use mathlib.Core.Option.{Option, none, some}
-use lib.Dec.{eqb, leb}
-use lib.ListN.{get_or}
+use lib.Dec.{leb}
+use Rattle.std.specs.Prelude.{Option as Maybe, Some, None}
 use Rattle.rules.specs.Rows.{Ptr}
-use Rattle.rules.specs.Arithmetic.{Op, add, sub, mul, div, mod', beq, ble, number, truth, quotient, remainder, compute}
-use Rattle.rules.specs.Declarations.{Role, no_role, nat, zero', succ', true', false', quot_mk, quot_lift, quot_ind, arith, op_code, role_code}
-use Rattle.rules.specs.Declarations.{Decl, Env, holder}
+use Rattle.rules.specs.Arithmetic.{Op, add, sub, mul, div, mod', beq, ble, Computed, number, truth, compute}
+use Rattle.rules.specs.Declarations.{Role, true', false', Decl, Env, holder}
 use Rattle.rules.specs.Firings.{Result, a_number, a_constant}
-use Rattle.rules.specs.HeadTests.{given, held, both, operation_of, tried, operands, outcome}
-use Rattle.arith.specs.declared.Outcome.{Outcome}
+use Rattle.rules.specs.HeadTests.{held, both, operation_of, tried, operands, outcome}
+use Rattle.arith.specs.declared.Op as code
 use Rattle.arith.specs.Meaning as said
-use Rattle.arith.specs.Meaning.{words, refusal, pick, meaning, settled}
+use Rattle.arith.specs.Meaning.{Outcome, words, refusal, pick, op_of, meaning, settled}
 use Rattle.rows.specs.Words.{ite}
-use Rattle.majors.specs.Majors.{nobody, held_by, Agrees, TruthHeld}
+use Rattle.tables.specs.declared.Holders.{Holders}
+use Rattle.tables.specs.declared.codes.Role as codes
+use Rattle.tables.specs.declared.codes.Role.TheVariants.{True, False}
+use Rattle.tables.specs.Codes.{role_on}
+use Rattle.tables.specs.Read.{found, found_number, holder_in}
+use Rattle.majors.specs.Majors.{Agrees, TruthHeld}
 use Rattle.cycle.proofs.Tests.{not_an_operation, truths_not_held}
-use Rattle.reduce.specs.Members.{is_tried}
+use Rattle.reduce.specs.Members.{only, OpTried}
 
-false_true : false ≡ true → ⊥
-false_true q = let n : ◌≡◌ {A = ℕ} 0 1 = cc in omega O.arith
-
-op_codes : (o : Op) → (9 ≤ op_code o) × (op_code o ≤ 15)
-op_codes add = (omega O.arith, omega O.arith)
-op_codes sub = (omega O.arith, omega O.arith)
-op_codes mul = (omega O.arith, omega O.arith)
-op_codes div = (omega O.arith, omega O.arith)
-op_codes mod' = (omega O.arith, omega O.arith)
-op_codes beq = (omega O.arith, omega O.arith)
-op_codes ble = (omega O.arith, omega O.arith)
-
--- the operation of a role that is tried
-pub record Operation (e : Env) (ρ : Role) : Type 0 where
-  pub op : Op
-  pub of : operation_of ρ ≡ some op
-  pub tries : tried e op ≡ true
-  pub code : op_code op ≡ role_code ρ
-
-pub operation_codes : {e : Env} {ρ : Role} → Operation e ρ → (9 ≤ role_code ρ) × (role_code ρ ≤ 15)
-operation_codes o = let range = op_codes o.op in let same = o.code in (omega (O.arith, range.0), omega (O.arith, range.1))
+-- an operation that is tried for a role
+pub record Operation (e : Env) (ρ : Role) (o : code.Op) : Type 0 where
+  pub of : operation_of ρ ≡ some (op_of o)
+  pub tries : tried e (op_of o) ≡ true
 
 -- what an outcome is, where there is one
 pub record Comes (x : Option Result) : Type 0 where
   pub to : Result
   pub is : x ≡ some to
 
-module _ {e : Env} {hs : List ℕ} (agrees : Agrees e hs) where
-  -- WHICH ROLES ARE TRIED
+module _ {e : Env} {hs : Holders} (agrees : Agrees e hs) where
+  -- WHAT THE CODE TRIES
 
-  truths_tested : ite (eqb (get_or hs 4 0) nobody) false (not (eqb (get_or hs 5 0) nobody)) ≡ both (held (holder e true')) (held (holder e false'))
-  unfolding held_by
-  truths_tested =
-      rw (agrees.holds true' (omega O.arith), agrees.holds false' (omega O.arith)) (on (eqb (get_or hs 4 0) nobody) (eqb (get_or hs 5 0) nobody))
-    where
-      on : (a b : Bool) → ite a false (not b) ≡ both (held (ite a none (some (get_or hs 4 0)))) (held (ite b none (some (get_or hs 5 0))))
-      on true b = refl
-      on false true = refl
-      on false false = refl
+  module _ (D : Decl) {role : Maybe codes.Role} (read : D.role ≡ role_on role) where
+    -- what the code tried, as an answer on the rules' role
+    tried_as : {r : Maybe code.Op} → OpTried hs role r → found op_of r ≡ only (tried e) (operation_of D.role)
+    tried_as tries = tries.is e agrees ∙ ap (λ (ρ : Role). only (tried e) (operation_of ρ)) (sym read)
 
-  tested : (o : Op) → is_tried hs (op_code o) ≡ tried e o
-  tested add = refl
-  tested sub = refl
-  tested mul = refl
-  tested div = refl
-  tested mod' = refl
-  tested beq = truths_tested
-  tested ble = truths_tested
+    pub tried_operation : {o : code.Op} → OpTried hs role (Some o) → Operation e D.role o
+    tried_operation {o} tries = on (operation_of D.role) refl (tried_as tries)
+      where
+        on_test : (p : Op) → operation_of D.role ≡ some p → (b : Bool) → tried e p ≡ b → some (op_of o) ≡ ite b (some p) none →
+            Operation e D.role o
+        on_test p z true t q =
+            let is : p ≡ op_of o = cc in
+            record { of = z ∙ ap some is; tries = sym (ap (tried e) is) ∙ t }
+        on_test p z false t q = cc
 
-  pub tried_operation : (ρ : Role) → is_tried hs (role_code ρ) ≡ true → Operation e ρ
-  tried_operation no_role q = absurd (false_true q)
-  tried_operation nat q = absurd (false_true q)
-  tried_operation zero' q = absurd (false_true q)
-  tried_operation succ' q = absurd (false_true q)
-  tried_operation true' q = absurd (false_true q)
-  tried_operation false' q = absurd (false_true q)
-  tried_operation quot_mk q = absurd (false_true q)
-  tried_operation quot_lift q = absurd (false_true q)
-  tried_operation quot_ind q = absurd (false_true q)
-  tried_operation (arith o) q = record { op = o; of = refl; tries = sym (tested o) ∙ q; code = refl }
+        on : (x : Option Op) → operation_of D.role ≡ x → some (op_of o) ≡ only (tried e) x → Operation e D.role o
+        on none z q = cc
+        on (some p) z q = on_test p z (tried e p) refl q
 
-  pub not_tried : (D : Decl) (xs : List Ptr) → is_tried hs (role_code D.role) ≡ false → operands e D xs ≡ none
-  not_tried D xs = on D.role refl
-    where
-      on : (ρ : Role) → D.role ≡ ρ → is_tried hs (role_code ρ) ≡ false → operands e D xs ≡ none
-      on no_role z q = not_an_operation e D xs (ap operation_of z)
-      on nat z q = not_an_operation e D xs (ap operation_of z)
-      on zero' z q = not_an_operation e D xs (ap operation_of z)
-      on succ' z q = not_an_operation e D xs (ap operation_of z)
-      on true' z q = not_an_operation e D xs (ap operation_of z)
-      on false' z q = not_an_operation e D xs (ap operation_of z)
-      on quot_mk z q = not_an_operation e D xs (ap operation_of z)
-      on quot_lift z q = not_an_operation e D xs (ap operation_of z)
-      on quot_ind z q = not_an_operation e D xs (ap operation_of z)
-      on (arith o) z q = truths_not_held e D xs (ap operation_of z) (sym (tested o) ∙ q)
+    pub no_operands : OpTried hs role None → (xs : List Ptr) → operands e D xs ≡ none
+    no_operands tries xs = on (operation_of D.role) refl (tried_as tries)
+      where
+        on_test : (p : Op) → operation_of D.role ≡ some p → (b : Bool) → tried e p ≡ b → none ≡ ite b (some p) none → operands e D xs ≡ none
+        on_test p z true t q = cc
+        on_test p z false t q = truths_not_held e D xs z t
+
+        on : (x : Option Op) → operation_of D.role ≡ x → none ≡ only (tried e) x → operands e D xs ≡ none
+        on none z q = not_an_operation e D xs z
+        on (some p) z q = on_test p z (tried e p) refl q
 
   -- WHAT AN OPERATION COMES TO
 
-  truth_comes : both (held (holder e true')) (held (holder e false')) ≡ true → (b : Bool) → Comes (outcome e (truth b))
+  abbrev truths_held : Bool
+  truths_held = both (held (holder e true')) (held (holder e false'))
+
+  -- beq and ble alone come to a truth value, and these are tried only where both are held
+  held_for : (o : Op) → tried e o ≡ true → (a b : ℕ) (v : Bool) → compute o a b ≡ truth v → truths_held ≡ true
+  unfolding compute
+  held_for add t a b v q = cc
+  held_for sub t a b v q = cc
+  held_for mul t a b v q = cc
+  held_for div t a b v q = cc
+  held_for mod' t a b v q = cc
+  held_for beq t a b v q = t
+  held_for ble t a b v q = t
+
+  truth_comes : truths_held ≡ true → (v : Bool) → Comes (outcome e (truth v))
   unfolding outcome
-  truth_comes q true = on (holder e true') (held (holder e false')) q
+  truth_comes h v = on (holder e true') (holder e false') refl refl h v
     where
-      on : (x : Option ℕ) (b : Bool) → both (held x) b ≡ true → Comes (given x λ c. some (a_constant c))
-      on none b q = absurd (false_true q)
-      on (some c) b q = record { to = a_constant c; is = refl }
-  truth_comes q false = on (held (holder e true')) (holder e false') q
-    where
-      on : (b : Bool) (x : Option ℕ) → both b (held x) ≡ true → Comes (given x λ c. some (a_constant c))
-      on true none q = absurd (false_true q)
-      on true (some c) q = record { to = a_constant c; is = refl }
-      on false x q = absurd (false_true q)
+      on : (x y : Option ℕ) → holder e true' ≡ x → holder e false' ≡ y → both (held x) (held y) ≡ true → (v : Bool) → Comes (outcome e (truth v))
+      on none y p r h v = cc
+      on (some c) none p r h v = cc
+      on (some c) (some d) p r h true = record { to = a_constant c; is = rw p refl }
+      on (some c) (some d) p r h false = record { to = a_constant d; is = rw r refl }
 
   pub outcome_comes : (o : Op) → tried e o ≡ true → (a b : ℕ) → Comes (outcome e (compute o a b))
-  unfolding outcome compute
-  outcome_comes add q a b = record { to = a_number _; is = refl }
-  outcome_comes sub q a b = record { to = a_number _; is = refl }
-  outcome_comes mul q a b = record { to = a_number _; is = refl }
-  outcome_comes div q a b = record { to = a_number _; is = refl }
-  outcome_comes mod' q a b = record { to = a_number _; is = refl }
-  outcome_comes beq q a b = truth_comes q (eqb a b)
-  outcome_comes ble q a b = truth_comes q (leb a b)
+  unfolding outcome
+  outcome_comes o t a b = on (compute o a b) refl
+    where
+      on : (c : Computed) → compute o a b ≡ c → Comes (outcome e c)
+      on (number n) q = record { to = a_number n; is = refl }
+      on (truth v) q = truth_comes (held_for o t a b v q) v
 
-  -- A TRUTH VALUE comes out of beq and ble alone, and these are tried only where both are held
+  both_held : truths_held ≡ true → (holder_in hs True ≡ None → ⊥) × (holder_in hs False ≡ None → ⊥)
+  both_held h = on (holder_in hs True) (holder_in hs False) (rw (agrees.holds True, agrees.holds False) at h)
+    where
+      on : (x y : Maybe ℕ) → both (held (found_number x)) (held (found_number y)) ≡ true → (x ≡ None → ⊥) × (y ≡ None → ⊥)
+      on None y h = cc
+      on (Some c) None h = cc
+      on (Some c) (Some d) h = (λ z. cc, λ z. cc)
 
-  no_truth : (n : ℕ) {b : Bool} → said.truth b ≡ settled (number n) → ⊥
+  no_truth : (n : ℕ) {v : Bool} → said.truth v ≡ settled (number n) → ⊥
   unfolding settled
-  no_truth n {b} = on (leb n (2 ^ 64 - 1))
+  no_truth n {v} = on (leb n (2 ^ 64 - 1))
     where
-      on : (a : Bool) → said.truth b ≡ pick a (words (n % 2 ^ 32) (n / 2 ^ 32)) (refusal 7) → ⊥
-      on true q = let z : ◌≡◌ {A = ℕ} 0 1 = cc in omega O.arith
-      on false q = let z : ◌≡◌ {A = ℕ} 0 1 = cc in omega O.arith
-
-  both_held : both (held (holder e true')) (held (holder e false')) ≡ true → (held_by hs 4 ≡ none → ⊥) × (held_by hs 5 ≡ none → ⊥)
-  both_held q = on (holder e true') (holder e false') (agrees.holds true' (omega O.arith)) (agrees.holds false' (omega O.arith)) q
-    where
-      on : (x y : Option ℕ) → x ≡ held_by hs 4 → y ≡ held_by hs 5 → both (held x) (held y) ≡ true →
-          (held_by hs 4 ≡ none → ⊥) × (held_by hs 5 ≡ none → ⊥)
-      on none y p r q = absurd (false_true q)
-      on (some c) none p r q = absurd (false_true q)
-      on (some c) (some d) p r q = (λ z. let n : ◌≡◌ {A = ℕ} 0 1 = cc in omega O.arith, λ z. let n : ◌≡◌ {A = ℕ} 0 1 = cc in omega O.arith)
+      on : (b : Bool) → said.truth v ≡ pick b (words (n % 2 ^ 32) (n / 2 ^ 32)) (refusal 7) → ⊥
+      on true q = cc
+      on false q = cc
 
   pub truth_held : (o : Op) → tried e o ≡ true → (a b : ℕ) (r : Outcome) → meaning r ≡ settled (compute o a b) → TruthHeld hs r
-  unfolding settled compute
-  truth_held o q a b r m = record { both = λ v z. on o q (sym (ap meaning z) ∙ m) }
+  truth_held o t a b r m = record { both = λ v z. on (compute o a b) refl v (sym (ap meaning z) ∙ m) }
     where
-      on : (o : Op) → tried e o ≡ true → {v : Bool} → said.truth v ≡ settled (compute o a b) → (held_by hs 4 ≡ none → ⊥) × (held_by hs 5 ≡ none → ⊥)
-      on add q w = absurd (no_truth (a + b) w)
-      on sub q w = absurd (no_truth (a - b) w)
-      on mul q w = absurd (no_truth (a * b) w)
-      on div q w = absurd (no_truth (quotient a b) w)
-      on mod' q w = absurd (no_truth (remainder a b) w)
-      on beq q w = both_held q
-      on ble q w = both_held q
+      on : (c : Computed) → compute o a b ≡ c → (v : Bool) → said.truth v ≡ settled c → (holder_in hs True ≡ None → ⊥) × (holder_in hs False ≡ None → ⊥)
+      on (number n) q v w = absurd (no_truth n w)
+      on (truth u) q v w = both_held (held_for o t a b u q)

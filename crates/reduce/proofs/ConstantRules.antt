@@ -17,8 +17,7 @@ use Rattle.tables.specs.declared.Decl as words
 use Rattle.tables.specs.Read.{decl_read}
 use Rattle.state.specs.declared.Given.{Given}
 use Rattle.state.specs.declared.Meter.{Meter}
-use Rattle.state.specs.declared.Answer.{Answer}
-use Rattle.state.specs.declared.Answer.TheVariants.{Final}
+use Rattle.state.specs.State.{Answer}
 use Rattle.state.specs.State.{tally_of, limits_in, Left}
 use Rattle.firing.specs.Fires.{unfold_step, unfolds_to}
 use Rattle.cycle.specs.Cycle.{Counted}
@@ -28,6 +27,8 @@ use Rattle.cycle.proofs.Unfolding.{delta_tried}
 use Rattle.cycle.proofs.Values.{value_below}
 use Rattle.cycle.proofs.Binders.{arguments_in}
 use Rattle.reduce.proofs.InOrder.{Place, begins, passes, answers}
+use Rattle.std.specs.Prelude.{IfSome, Ok}
+use Rattle.state.specs.declared.Tried.TheVariants.{Final}
 
 -- what is still to be tried at each place, over the constant's arguments
 module _ (e : Env) (d levels : ℕ) where
@@ -59,34 +60,33 @@ quotients_first {ds = ds} {rs} {cs} {g = g} n d levels c = begins n (from_quotie
 module _ (d levels : ℕ) {l ds rs cs sc : List ℕ} {g : Given} {m : Meter} {t : Ptr} {count n : ℕ} {sc₁ : List ℕ} {m₁ : Meter} {r : Answer} {sc₂ : List ℕ} where
   -- QUOTIENTS
   module _ (p : At l ds rs cs sc g m t count n d levels sc₁ m₁ from_quotients) (k : Left l sc₁ m₁ r sc₂ (quotient l ds rs cs sc₁ g m₁ t n d)) where
-    pub quotients_answer : ((m₂ : Meter) → r ≡ Final m₂ → ⊥) → Left l sc m r sc₂ (constantly l ds rs cs sc g m t n d levels)
+    pub quotients_answer : ((m₂ : Meter) → r ≡ Ok (Final m₂) → ⊥) → Left l sc m r sc₂ (constantly l ds rs cs sc g m t n d levels)
     quotients_answer = answers (quot _ _) (from_recursion _ d levels) p k
 
-    pub recursion_next : {m₂ : Meter} → r ≡ Final m₂ → At l ds rs cs sc g m t count n d levels sc₂ m₂ from_recursion
+    pub recursion_next : {m₂ : Meter} → r ≡ Ok (Final m₂) → At l ds rs cs sc g m t count n d levels sc₂ m₂ from_recursion
     recursion_next = passes (quot _ _) (from_recursion _ d levels) p k (safe_quot p.counted.asked.stand.sane (arguments_in p.counted.asked n) _)
 
   -- RECURSORS
   module _ (p : At l ds rs cs sc g m t count n d levels sc₁ m₁ from_recursion) (k : Left l sc₁ m₁ r sc₂ (recursed l ds rs cs sc₁ g m₁ t n d levels)) where
-    pub recursion_answers : ((m₂ : Meter) → r ≡ Final m₂ → ⊥) → Left l sc m r sc₂ (constantly l ds rs cs sc g m t n d levels)
+    pub recursion_answers : ((m₂ : Meter) → r ≡ Ok (Final m₂) → ⊥) → Left l sc m r sc₂ (constantly l ds rs cs sc g m t n d levels)
     recursion_answers = answers (recursion _ _ levels) (from_arithmetic _ d levels) p k
 
-    pub arithmetic_next : {m₂ : Meter} → r ≡ Final m₂ → At l ds rs cs sc g m t count n d levels sc₂ m₂ from_arithmetic
+    pub arithmetic_next : {m₂ : Meter} → r ≡ Ok (Final m₂) → At l ds rs cs sc g m t count n d levels sc₂ m₂ from_arithmetic
     arithmetic_next = passes (recursion _ _ levels) (from_arithmetic _ d levels) p k (safe_recursion p.counted.asked.stand.sane (arguments_in p.counted.asked n) d levels)
 
   -- ARITHMETIC
   module _ (p : At l ds rs cs sc g m t count n d levels sc₁ m₁ from_arithmetic) (k : Left l sc₁ m₁ r sc₂ (computed l ds rs cs sc₁ g m₁ t n d)) where
-    pub arithmetic_answers : ((m₂ : Meter) → r ≡ Final m₂ → ⊥) → Left l sc m r sc₂ (constantly l ds rs cs sc g m t n d levels)
+    pub arithmetic_answers : ((m₂ : Meter) → r ≡ Ok (Final m₂) → ⊥) → Left l sc m r sc₂ (constantly l ds rs cs sc g m t n d levels)
     arithmetic_answers = answers (arithmetic _ _) (by_delta (env_of ds rs cs g.depth) d levels) p k
 
-    pub delta_last : {m₂ : Meter} → r ≡ Final m₂ → At l ds rs cs sc g m t count n d levels sc₂ m₂ by_delta
+    pub delta_last : {m₂ : Meter} → r ≡ Ok (Final m₂) → At l ds rs cs sc g m t count n d levels sc₂ m₂ by_delta
     delta_last = passes (arithmetic _ _) (by_delta (env_of ds rs cs g.depth) d levels) p k (safe_arithmetic p.counted.asked.stand.sane (arguments_in p.counted.asked n) _)
 
 -- DELTA, with the declaration that was read; whatever it answers
 module _ (d levels : ℕ) {l ds rs cs sc : List ℕ} {g : Given} {m : Meter} {t : Ptr} {count n : ℕ} {sc₁ : List ℕ} {m₁ : Meter}
     (p : At l ds rs cs sc g m t count n d levels sc₁ m₁ by_delta) (there : d < length ds / 16) {read : words.Decl} (is : read ≡ decl_read (part 16 ds d)) where
-  pub value_stands : (read.valued ≡ 0 → ⊥) → read.value.row < g.nlib + m₁.mark
-  value_stands =
-      subst (λ (z : words.Decl). ((z.valued ≡ 0 → ⊥) → z.value.row < g.nlib + m₁.mark)) (sym is) (value_below p.counted.asked.stand d there)
+  pub value_stands : IfSome read.value (λ v. v.row < g.nlib + m₁.mark)
+  value_stands = subst (λ (z : words.Decl). IfSome z.value (λ v. v.row < g.nlib + m₁.mark)) (sym is) (value_below p.counted.asked.stand d there)
 
   pub delta_answers : {r : Answer} {sc₂ : List ℕ} →
       Left l sc₁ m₁ r sc₂ (unfold_step (limits_in g sc₁) (tally_of l sc₁ m₁) (unfolds_to read levels) (args_of (store_of l sc₁ m₁.mark) (ptr_of t))) →

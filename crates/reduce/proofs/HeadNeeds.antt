@@ -17,17 +17,22 @@ use Rattle.safety.specs.Sane.{depth_of}
 use Rattle.safety.specs.Scope.{let_value_in}
 use Rattle.ways.specs.Steps.{fire_in}
 use Rattle.ways.specs.Spines.{head_of, args_of}
+use Rattle.rows.specs.Checks.{Formed}
+use Rattle.rows.specs.Kinds.{code_of}
+use Rattle.rows.specs.declared.kinds.Kind.{Kind}
+use Rattle.rows.specs.declared.kinds.Kind.TheVariants.{Variable, Constant, Lambda, Let, Projection}
 use Rattle.rows.specs.declared.Ptr.{Ptr}
 use Rattle.rows.specs.declared.Shape.{Shape}
 use Rattle.rows.specs.Words.{ptr_of, shape_at, words_at, store_of, whole, Stands}
+use Rattle.rows.proofs.Codes.{not_code}
+use Rattle.rows.proofs.Formed.{row_formed}
 use Rattle.rows.proofs.Store.{used_stands, up_used, held_length}
 use Rattle.spine.specs.declared.Spined.{Spined}
 use Rattle.spine.specs.Walks as walks
 use Rattle.tables.specs.Env.{env_of}
 use Rattle.state.specs.declared.Given.{Given}
 use Rattle.state.specs.declared.Meter.{Meter}
-use Rattle.state.specs.declared.Answer.{Answer}
-use Rattle.state.specs.declared.Answer.TheVariants.{Final}
+use Rattle.state.specs.State.{Answer}
 use Rattle.state.specs.State.{tally_of, limits_in, Left}
 use Rattle.firing.specs.Fires.{Opens, HasContext, unfold_step, context_value}
 use Rattle.cycle.specs.Cycle.{Asked, Counted, head_by}
@@ -40,8 +45,11 @@ use Rattle.cycle.proofs.Heads.{head_variable, head_constant, head_projection}
 use Rattle.cycle.proofs.Binders.{head_row_in, let_fires, lambda_stays, lambda_fires, structure_asked}
 use Rattle.cycle.proofs.Shifts.{scope_shift, head-shift, lambda_opens, let_opens}
 use Rattle.cycle.proofs.Values.{head_index, variable_held}
-use Rattle.cycle.proofs.HeadShapes.{head_walked, walked_counted, shape_variable, shape_constant, shape_lambda, shape_let, shape_projection, shape_other}
+use Rattle.cycle.proofs.HeadShapes.{head_walked, walked_counted, head_below, shape_variable, shape_constant}
+use Rattle.cycle.proofs.HeadShapes.{shape_lambda, shape_let, shape_projection, shape_other}
 use Rattle.reduce.proofs.Sides.{taken_is}
+use Rattle.std.specs.Prelude.{Ok}
+use Rattle.state.specs.declared.Tried.TheVariants.{Final}
 
 -- the head of t was walked to, and its shape read
 pub record Seen (l ds rs cs sc : List ℕ) (g : Given) (m : Meter) (t : Ptr) (sp : Spined) (w : Shape) : Type 0 where
@@ -69,6 +77,10 @@ module _ {l ds rs cs sc : List ℕ} {g : Given} {m : Meter} {t : Ptr} {sp : Spin
 
   pub seen_counted : Counted l ds rs cs sc g m t sp.count
   seen_counted = walked_counted k.asked sp k.walked
+
+  -- its kind is one of the nine
+  pub kind_known : w.kind ≤ 8
+  kind_known = (subst Formed (sym k.read) (row_formed (k.asked.stand.words sp.head.row (head_below k.asked sp k.walked)))).kind
 
   -- the head's shift is the spine's
   same_shift : (head_of s (ptr_of t)).shift ≡ by
@@ -120,7 +132,7 @@ module _ {l ds rs cs sc : List ℕ} {g : Given} {m : Meter} {t : Ptr} {sp : Spin
     lambda_row : row_at s (head_of s (ptr_of t)).row ≡ node lam (ptr_of w.first) (ptr_of w.second) blank
     lambda_row = shape_lambda k.asked sp k.walked w k.read kind
 
-    pub lambda_alone : (n : ℕ) → sp.count ≡ 0 → Left l sc m (Final m) sc (head_by l ds rs cs sc g m n (ptr_of t))
+    pub lambda_alone : (n : ℕ) → sp.count ≡ 0 → Left l sc m (Ok (Final m)) sc (head_by l ds rs cs sc g m n (ptr_of t))
     lambda_alone n none =
         final_left (nothing_passed sc m k.asked.stand.held.room) (lambda_stays k.asked n lambda_row (seen_counted.counted ∙ none))
 
@@ -199,7 +211,9 @@ module _ {l ds rs cs sc : List ℕ} {g : Given} {m : Meter} {t : Ptr} {sp : Spin
           ∙ sym (head_projection k.asked n projection_row))
 
   -- ANY OTHER KIND
-  pub no_rule_there : (n : ℕ) → (w.kind ≡ 0 → ⊥) → (w.kind ≡ 2 → ⊥) → (w.kind ≡ 4 → ⊥) → (w.kind ≡ 6 → ⊥) → (w.kind ≡ 7 → ⊥) →
-      Left l sc m (Final m) sc (head_by l ds rs cs sc g m n (ptr_of t))
-  no_rule_there n h₀ h₂ h₄ h₆ h₇ =
-      final_left (nothing_passed sc m k.asked.stand.held.room) (shape_other k.asked sp k.walked w k.read n h₀ h₂ h₄ h₆ h₇)
+  pub no_rule_there : (n : ℕ) {j : Kind} → code_of j ≡ w.kind → (j ≡ Variable → ⊥) → (j ≡ Constant → ⊥) → (j ≡ Lambda → ⊥) → (j ≡ Let → ⊥) →
+      (j ≡ Projection → ⊥) → Left l sc m (Ok (Final m)) sc (head_by l ds rs cs sc g m n (ptr_of t))
+  no_rule_there n is v c f l' p =
+      final_left (nothing_passed sc m k.asked.stand.held.room)
+      (shape_other k.asked sp k.walked w k.read n (not_code Variable v is) (not_code Constant c is) (not_code Lambda f is) (not_code Let l' is)
+      (not_code Projection p is))

@@ -15,13 +15,14 @@ use Rattle.rows.specs.Words.{ptr_of, store_of}
 use Rattle.tables.specs.Env.{env_of}
 use Rattle.state.specs.declared.Given.{Given}
 use Rattle.state.specs.declared.Meter.{Meter}
-use Rattle.state.specs.declared.Answer.{Answer}
-use Rattle.state.specs.declared.Answer.TheVariants.{Term, Final, Refused}
+use Rattle.state.specs.State.{Answer}
 use Rattle.state.specs.State.{Left}
 use Rattle.cycle.specs.Cycle.{Counted}
 use Rattle.cycle.proofs.WaysOut.{left_as}
 use Rattle.cycle.proofs.Constants.{tried, else_fires, else_stops, else_passes, counted_after_miss, arguments_after_miss}
 use Rattle.reduce.proofs.Answers.{left_when}
+use Rattle.std.specs.Prelude.{Err, Ok}
+use Rattle.state.specs.declared.Tried.TheVariants.{Term, Final}
 
 -- begun with sc and m, the call stands at sc₁ and m₁, and the rules from `rest` on are still to be tried: their answer is the call's
 pub record Place (l ds rs cs sc : List ℕ) (g : Given) (m : Meter) (t : Ptr) (count n : ℕ) (whole : Step) (sc₁ : List ℕ) (m₁ : Meter) (rest : List rules.Ptr → Try) : Type 0 where
@@ -44,7 +45,7 @@ module _ {l ds rs cs sc : List ℕ} {g : Given} {m : Meter} {t : Ptr} {count n :
 
   module _ {r : Answer} {sc₂ : List ℕ} (first : Left l sc₁ m₁ r sc₂ (tried e l g n sc₁ m₁ (y xs))) where
     -- the rule that is tried here misses, and the next one stands where it ended
-    pub passes : {m₂ : Meter} → Safe (decl_count e) (depth_of e) (store_of l sc₁ m₁.mark) (y xs) → r ≡ Final m₂ → Place l ds rs cs sc g m t count n whole sc₂ m₂ z
+    pub passes : {m₂ : Meter} → Safe (decl_count e) (depth_of e) (store_of l sc₁ m₁.mark) (y xs) → r ≡ Ok (Final m₂) → Place l ds rs cs sc g m t count n whole sc₂ m₂ z
     passes {m₂} safe is =
         let missed = left_when is first in
         record {
@@ -56,11 +57,11 @@ module _ {l ds rs cs sc : List ℕ} {g : Given} {m : Meter} {t : Ptr} {count n :
         }
 
     -- it does not miss, and its answer is the call's
-    pub answers : ((m₂ : Meter) → r ≡ Final m₂ → ⊥) → Left l sc m r sc₂ whole
+    pub answers : ((m₂ : Meter) → r ≡ Ok (Final m₂) → ⊥) → Left l sc m r sc₂ whole
     answers other = p.through r sc₂ (on r first other)
       where
-        on : (a : Answer) → Left l sc₁ m₁ a sc₂ (tried e l g n sc₁ m₁ (y xs)) → ((m₂ : Meter) → a ≡ Final m₂ → ⊥) →
+        on : (a : Answer) → Left l sc₁ m₁ a sc₂ (tried e l g n sc₁ m₁ (y xs)) → ((m₂ : Meter) → a ≡ Ok (Final m₂) → ⊥) →
             Left l sc₁ m₁ a sc₂ (tried e l g n sc₁ m₁ (y xs or_else z xs))
-        on (Term q m₂) k h = else_fires e l g n sc₁ m₁ (y xs) (z xs) k
-        on (Final m₂) k h = absurd (h m₂ refl)
-        on (Refused j) k h = else_stops e l g n sc₁ m₁ (y xs) (z xs) k
+        on (Ok (Term q m₂)) k h = else_fires e l g n sc₁ m₁ (y xs) (z xs) k
+        on (Ok (Final m₂)) k h = absurd (h m₂ refl)
+        on (Err j) k h = else_stops e l g n sc₁ m₁ (y xs) (z xs) k

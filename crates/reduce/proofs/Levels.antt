@@ -11,13 +11,14 @@ use Rattle.rows.specs.Words.{ptr_of}
 use Rattle.tables.specs.Env.{env_of}
 use Rattle.state.specs.declared.Given.{Given}
 use Rattle.state.specs.declared.Meter.{Meter}
-use Rattle.state.specs.declared.Reduced.{Reduced}
-use Rattle.state.specs.declared.Reduced.TheVariants.{Refused}
+use Rattle.state.specs.State.{Reduced}
 use Rattle.state.specs.State.{tally_of, limits_in}
 use Rattle.cycle.specs.Cycle.{Ran, res_by}
+use Rattle.std.specs.Prelude.{Err}
+use Rattle.rows.specs.declared.refusals.Refusal.TheVariants.{NoLevel}
 
 module _ (l ds rs cs sc : List ℕ) (g : Given) (m : Meter) (p : Ptr) (n : ℕ) where
-  pub no_level_left : n ≡ 0 → Ran l sc m (Refused 6) sc (res_by l ds rs cs sc g m n (ptr_of p))
+  pub no_level_left : n ≡ 0 → Ran l sc m (Err NoLevel) sc (res_by l ds rs cs sc g m n (ptr_of p))
   unfolding side_at
   no_level_left none = record {
     says = sym (ap (λ (k : ℕ). side_at (env_of ds rs cs g.depth) (limits_in g sc) k (tally_of l sc m) (ptr_of p)) none);

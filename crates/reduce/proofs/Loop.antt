@@ -15,9 +15,7 @@ use Rattle.rows.specs.Writes.{Grown}
 use Rattle.tables.specs.Env.{env_of}
 use Rattle.state.specs.declared.Given.{Given}
 use Rattle.state.specs.declared.Meter.{Meter}
-use Rattle.state.specs.declared.Answer.{Answer}
-use Rattle.state.specs.declared.Answer.TheVariants.{Term, Final, Refused}
-use Rattle.state.specs.declared.Reduced.TheVariants as reduced
+use Rattle.state.specs.State.{Answer}
 use Rattle.state.specs.State.{tally_of, limits_in, Left}
 use Rattle.cycle.specs.Cycle.{Asked, Passed, Ran, head_by, res_by}
 use Rattle.cycle.specs.Course.{Remains, remains_fired, remains_final, remains_stopped}
@@ -25,6 +23,9 @@ use Rattle.cycle.proofs.Standing.{nothing_passed, left_on, passed_on, left_passe
 use Rattle.cycle.proofs.WaysOut.{left_as}
 use Rattle.cycle.proofs.Heads.{head_safe, head_is, all_remains}
 use Rattle.reduce.proofs.Answers.{left_when}
+use Rattle.std.specs.Prelude.{Err, Ok}
+use Rattle.state.specs.declared.Tried.TheVariants.{Term, Final}
+use Rattle.rows.specs.declared.refusals.Refusal.{Refusal}
 
 -- begun with sc₀, m₀ and t₀, the loop stands at sc, m and t: what remains from here on comes to the answer of the start
 pub record Going (l ds rs cs : List ℕ) (g : Given) (n : ℕ) (sc₀ : List ℕ) (m₀ : Meter) (t₀ : Ptr) (sc : List ℕ) (m : Meter) (t : Ptr) : Type 0 where
@@ -50,8 +51,8 @@ module _ {l ds rs cs sc₀ sc : List ℕ} {g : Given} {n : ℕ} {m₀ m : Meter}
   -- WHAT THE RULES AT THE HEAD ANSWERED
   module _ {r : Answer} {sc₁ : List ℕ} (tried : Left l sc m r sc₁ (head_by l ds rs cs sc g m n (ptr_of t))) where
     -- a rule fired
-    module _ {q : Ptr} {m₁ : Meter} (is : r ≡ Term q m₁) where
-      left : Left l sc m (Term q m₁) sc₁ (head_by l ds rs cs sc g m n (ptr_of t))
+    module _ {q : Ptr} {m₁ : Meter} (is : r ≡ Ok (Term q m₁)) where
+      left : Left l sc m (Ok (Term q m₁)) sc₁ (head_by l ds rs cs sc g m n (ptr_of t))
       left = left_when is tried
 
       next : Next k.asked.stand sc₁ m₁ q
@@ -74,7 +75,7 @@ module _ {l ds rs cs sc₀ sc : List ℕ} {g : Given} {n : ℕ} {m₀ m : Meter}
       fewer_left = omega (arith, taken, next.asked.stand.metered)
 
     -- no rule: the term is the answer
-    pub going_ends : {m₁ : Meter} → r ≡ Final m₁ → Ran l sc₀ m₀ (reduced.To t m₁) sc₁ answer
+    pub going_ends : {m₁ : Meter} → r ≡ Ok (Final m₁) → Ran l sc₀ m₀ (Ok (t, m₁)) sc₁ answer
     going_ends {m₁} is =
         let left = left_when is tried in
         let through = passed_on k.passed (left_passed left refl) in
@@ -86,7 +87,7 @@ module _ {l ds rs cs sc₀ sc : List ℕ} {g : Given} {n : ℕ} {m₀ m : Meter}
         }
 
     -- refused
-    pub going_stops : {j : ℕ} → r ≡ Refused j → Ran l sc₀ m₀ (reduced.Refused j) sc₁ answer
+    pub going_stops : {j : Refusal} → r ≡ Err j → Ran l sc₀ m₀ (Err j) sc₁ answer
     going_stops is =
         let left = left_when is tried in
         let through = left_on k.passed left in

@@ -12,7 +12,8 @@ use Rattle.rules.specs.Rows as rules
 use Rattle.rules.specs.Rows.{Store}
 use Rattle.rules.specs.RowCheck.{InScope}
 use Rattle.rules.specs.Accepted.{part}
-use Rattle.rules.specs.Declarations.{Role, nth, decl_at, role_code}
+use Rattle.rules.specs.Declarations as rules_role
+use Rattle.rules.specs.Declarations.{nth, decl_at}
 use Rattle.rules.specs.Firings.{itself}
 use Rattle.rules.specs.HeadTests.{quot_parts_of, quot_position, quot_parts}
 use Rattle.substitution.specs.Stores.{Good, scope_good}
@@ -23,31 +24,32 @@ use Rattle.rows.specs.declared.Ptr.{Ptr}
 use Rattle.rows.specs.Words.{ptr_of, store_of, whole}
 use Rattle.spine.specs.Walks as walks
 use Rattle.spine.proofs.ForCallers.{scope_at, arguments_in_scope}
-use Rattle.fields.specs.declared.FieldFound.{FieldFound}
-use Rattle.fields.specs.declared.FieldFound.TheVariants.{Found, NoField}
 use Rattle.fields.specs.Fields.{QuotMade}
 use Rattle.fields.proofs.ForCallers.{element_missed, element_found, element_scope}
 use Rattle.tables.specs.declared.Decl.{Decl}
 use Rattle.tables.specs.Env.{env_of}
 use Rattle.tables.specs.Read.{decl_read}
-use Rattle.tables.specs.ReadLaws.{role_code_is}
+use Rattle.tables.specs.ReadLaws.{has_role, has_no_such_role}
+use Rattle.tables.specs.declared.codes.Role.{Role}
+use Rattle.tables.specs.declared.codes.Role.TheVariants.{QuotLift, QuotInd}
 use Rattle.state.specs.declared.Given.{Given}
 use Rattle.state.specs.declared.Meter.{Meter}
-use Rattle.state.specs.declared.Answer.{Answer}
-use Rattle.state.specs.declared.Answer.TheVariants.{Final}
-use Rattle.state.specs.declared.Reduced.{Reduced}
-use Rattle.state.specs.declared.Reduced.TheVariants.{Refused}
+use Rattle.state.specs.State.{Answer}
+use Rattle.state.specs.State.{Reduced}
 use Rattle.state.specs.State.{tally_of, limits_in, Headed, Left}
 use Rattle.cycle.specs.Cycle.{Asked, Counted, Ran, res_by}
 use Rattle.cycle.specs.Members.{quotient}
 use Rattle.cycle.proofs.WaysOut.{same_arguments}
 use Rattle.cycle.proofs.Quotients.{at_five, at_four, nowhere, no_parts, the_parts, few_parts, quot_misses, quot_stops, quot_ends, quot_gives}
-use Rattle.reduce.specs.Members.{answer_of, QuotLeft}
-use Rattle.reduce.proofs.Sides.{ran_as, handed_up, rows_pass, taken_is, taken_scope, taken_asked, Came, came_asked, still_counted, still_headed}
+use Rattle.reduce.specs.Members.{QuotLeft}
+use Rattle.reduce.proofs.Sides.{ran_as, rows_pass, taken_is, taken_scope, taken_asked, Came, came_asked, still_counted, still_headed}
+use Rattle.std.specs.Prelude.{Err, None, Ok, Option as Maybe, Some}
+use Rattle.state.specs.declared.Tried.TheVariants.{Final}
+use Rattle.rows.specs.declared.refusals.Refusal.{Refusal}
 
 -- no argument at the position
 pub no_major : {l ds rs cs sc : List ℕ} {g : Given} {m : Meter} {t : Ptr} {count : ℕ} → Counted l ds rs cs sc g m t count → (n position : ℕ) →
-    count ≤ position → QuotLeft l ds rs cs sc g m t n position (Final m) sc
+    count ≤ position → QuotLeft l ds rs cs sc g m t n position (Ok (Final m)) sc
 no_major c n position few = record { left = λ d q. quot_misses c n d (few_parts _ _ q (omega (arith, c.counted, few))) }
 
 -- THE MAJOR x was taken at the position
@@ -87,17 +89,17 @@ module _ {l ds rs cs sc : List ℕ} {g : Given} {m : Meter} {t : Ptr} {count pos
   parts : (d : ℕ) → Placed d → quot_parts (decl_at (env_of ds rs cs g.depth).decls d) xs ≡ some (quot_parts_of (ptr_of function) (ptr_of x) (drop (position + 1) xs))
   parts = parts_with function function_there
 
-  pub major_refused : (n : ℕ) {r : Reduced} {sc₁ : List ℕ} → Ran l sc m r sc₁ (res_by l ds rs cs sc g m n (ptr_of x)) → {k : ℕ} {a : Answer} →
-      r ≡ Refused k → a ≡ answer_of r → QuotLeft l ds rs cs sc g m t n position a sc₁
-  major_refused n ran e h = record { left = λ d q. handed_up e h (quot_stops major.given n d (position + 1) (parts d q) major_scope (ran_as e ran)) }
+  pub major_refused : (n : ℕ) {r : Reduced} {sc₁ : List ℕ} → Ran l sc m r sc₁ (res_by l ds rs cs sc g m n (ptr_of x)) → {k : Refusal} →
+      r ≡ Err k → QuotLeft l ds rs cs sc g m t n position (Err k) sc₁
+  major_refused n ran e = record { left = λ d q. quot_stops major.given n d (position + 1) (parts d q) major_scope (ran_as e ran) }
 
   -- its reduction came to q, and f is what was read there
   module _ {n : ℕ} {sc₁ : List ℕ} {q : Ptr} {m₁ : Meter} (k : Came l ds rs cs sc g m t count n x sc₁ q m₁)
-      {f : FieldFound} (answered : QuotMade l ds sc₁ q f) where
+      {f : (Maybe Ptr)} (answered : QuotMade l ds sc₁ q f) where
     asked : Asked l ds rs cs sc₁ g m₁ q
     asked = came_asked k
 
-    pub no_element : f ≡ NoField → QuotLeft l ds rs cs sc g m t n position (Final m₁) sc₁
+    pub no_element : f ≡ None → QuotLeft l ds rs cs sc g m t n position (Ok (Final m₁)) sc₁
     no_element z = record {
       left = λ d q'.
           quot_ends major.given n d (position + 1) (parts d q') major_scope k.ran
@@ -105,7 +107,7 @@ module _ {l ds rs cs sc : List ℕ} {g : Given} {m : Meter} {t : Ptr} {count pos
     }
 
     -- the element a, and the function h as the code reads it then
-    module _ {a : Ptr} (z : f ≡ Found a) {h : Ptr} (read : walks.Argument (whole l sc₁) (ptr_of t) count 3 h) where
+    module _ {a : Ptr} (z : f ≡ Some a) {h : Ptr} (read : walks.Argument (whole l sc₁) (ptr_of t) count 3 h) where
       at_three : nth xs 3 ≡ some (ptr_of h)
       at_three = ap (λ (ys : List rules.Ptr). nth ys 3) (sym (same_arguments k.given n k.scope k.ran)) ∙ taken_is (still_counted k) read
 
@@ -132,20 +134,27 @@ module _ {l ds rs cs sc : List ℕ} {g : Given} {m : Meter} {t : Ptr} {count pos
             left;
       }
 
--- WHICH RULE, by the code of the role that was read
+-- WHICH RULE, by the role that was read
 module _ {l ds rs cs sc : List ℕ} {g : Given} {m : Meter} {t : Ptr} {count : ℕ} (c : Counted l ds rs cs sc g m t count) (n d : ℕ) (there : d < length ds / 16)
     {r : Decl} (read : r ≡ decl_read (part 16 ds d)) where
-  abbrev role : Role
+  abbrev role : rules_role.Role
   role = (decl_at (env_of ds rs cs g.depth).decls d).role
 
-  role_read : role_code role ≡ r.role
-  role_read = role_code_is ds rs cs g.depth d there (c.asked.stand.tabled.roles d there) ∙ sym (ap (λ (x : Decl). x.role) read)
+  as_read : {o : Maybe Role} → r.role ≡ o → (decl_read (part 16 ds d)).role ≡ o
+  as_read e = sym (ap (λ (x : Decl). x.role) read) ∙ e
 
-  pub lifts : {o : Answer} {sc₁ : List ℕ} → r.role ≡ 7 → QuotLeft l ds rs cs sc g m t n 5 o sc₁ → Left l sc m o sc₁ (quotient l ds rs cs sc g m t n d)
-  lifts e k = k.left d (at_five role (role_read ∙ e))
+  pub lifts : {o : Answer} {sc₁ : List ℕ} → r.role ≡ Some QuotLift → QuotLeft l ds rs cs sc g m t n 5 o sc₁ →
+      Left l sc m o sc₁ (quotient l ds rs cs sc g m t n d)
+  lifts e k = k.left d (at_five role (has_role ds rs cs g.depth d there QuotLift (as_read e)))
 
-  pub inducts : {o : Answer} {sc₁ : List ℕ} → r.role ≡ 8 → QuotLeft l ds rs cs sc g m t n 4 o sc₁ → Left l sc m o sc₁ (quotient l ds rs cs sc g m t n d)
-  inducts e k = k.left d (at_four role (role_read ∙ e))
+  pub inducts : {o : Answer} {sc₁ : List ℕ} → r.role ≡ Some QuotInd → QuotLeft l ds rs cs sc g m t n 4 o sc₁ →
+      Left l sc m o sc₁ (quotient l ds rs cs sc g m t n d)
+  inducts e k = k.left d (at_four role (has_role ds rs cs g.depth d there QuotInd (as_read e)))
 
-  pub no_quotient : (r.role ≡ 7 → ⊥) → (r.role ≡ 8 → ⊥) → Left l sc m (Final m) sc (quotient l ds rs cs sc g m t n d)
-  no_quotient h k = quot_misses c n d (no_parts _ _ (nowhere role (λ e. h (sym role_read ∙ e)) (λ e. k (sym role_read ∙ e))))
+  pub no_quotient : (r.role ≡ Some QuotLift → ⊥) → (r.role ≡ Some QuotInd → ⊥) → Left l sc m (Ok (Final m)) sc (quotient l ds rs cs sc g m t n d)
+  no_quotient h k =
+      quot_misses c n d
+      (no_parts _ _
+      (nowhere role
+      (has_no_such_role ds rs cs g.depth d there QuotLift (λ e. h (ap (λ (x : Decl). x.role) read ∙ e)))
+      (has_no_such_role ds rs cs g.depth d there QuotInd (λ e. k (ap (λ (x : Decl). x.role) read ∙ e)))))

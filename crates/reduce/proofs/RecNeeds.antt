@@ -19,7 +19,6 @@ use Rattle.promises.specs.Stores.{ext_grow}
 use Rattle.ways.specs.Spines.{args_of, args_later}
 use Rattle.rows.specs.declared.Ptr.{Ptr}
 use Rattle.rows.specs.Words.{ptr_of, store_of, whole}
-use Rattle.spine.specs.declared.Spined.{Spined}
 use Rattle.spine.specs.Walks as spine
 use Rattle.tables.specs.declared.Decl.{Decl}
 use Rattle.tables.specs.Records.{records_from}
@@ -28,14 +27,11 @@ use Rattle.tables.specs.Read.{decl_read}
 use Rattle.tables.specs.ReadLaws.{levels_is, recursor_is, no_recursor}
 use Rattle.state.specs.declared.Given.{Given}
 use Rattle.state.specs.declared.Meter.{Meter}
-use Rattle.state.specs.declared.Answer.{Answer}
-use Rattle.state.specs.declared.Answer.TheVariants as answer
-use Rattle.state.specs.declared.Reduced.{Reduced}
-use Rattle.state.specs.declared.Reduced.TheVariants.{To, Refused}
+use Rattle.state.specs.State.{Answer}
+use Rattle.state.specs.State.{Reduced}
 use Rattle.state.specs.State.{tally_of, limits_in, Left}
 use Rattle.majors.specs.declared.Made.{Made}
-use Rattle.majors.specs.declared.Made.TheVariants as made
-use Rattle.majors.specs.Majors.{Major, major_of, meter_made, MadeAs, Constructed, MayRule, ruled_by, ruled_step}
+use Rattle.majors.specs.Majors.{Major, major_of, Construction, meter_made, MadeAs, Constructed, MayRule, ruled_by, ruled_step}
 use Rattle.majors.proofs.ForCallers.{ruled_is}
 use Rattle.cycle.specs.Cycle.{Asked, Counted, Passed, Ran, res_by}
 use Rattle.cycle.specs.Members.{recursed}
@@ -43,8 +39,11 @@ use Rattle.cycle.proofs.Standing.{headed_of, ran_passed, left_on, passed_on}
 use Rattle.cycle.proofs.WaysOut.{left_as, q_asked, t_counted, same_arguments}
 use Rattle.cycle.proofs.Tests.{other_levels, not_a_recursor, no_major, the_major}
 use Rattle.cycle.proofs.Recursing.{holders_known, rec_misses, rec_stops, no_constructor, rows_stop, rule_missing, rule_fires, made_counted, rule_values}
-use Rattle.reduce.specs.Members.{answer_of}
-use Rattle.reduce.proofs.Sides.{ran_as, handed_up, taken_is, taken_scope, taken_asked}
+use Rattle.reduce.proofs.Sides.{ran_as, taken_is, taken_scope, taken_asked}
+use Rattle.std.specs.Prelude.{Err, None, Ok, Some}
+use Rattle.tables.specs.declared.codes.DeclKind.TheVariants as kind
+use Rattle.state.specs.declared.Tried.TheVariants.{Final}
+use Rattle.rows.specs.declared.refusals.Refusal.{Refusal}
 
 -- WHAT A RECURSOR'S WORDS SAY, as the code adds them up
 
@@ -78,27 +77,27 @@ module _ {l ds rs cs sc : List ℕ} {g : Given} {m : Meter} {t : Ptr} {count d :
   same_levels : said.levels ≡ x.levels
   same_levels = levels_is ds rs cs g.depth d o.there ∙ ap (λ (y : Decl). y.levels) (sym o.read)
 
-  same_recursor : x.kind ≡ 2 → recursor_of said.form ≡ some (recursor_in rs x)
+  same_recursor : x.kind ≡ Some kind.Recursor → recursor_of said.form ≡ some (recursor_in rs x)
   same_recursor k =
       recursor_is ds rs cs g.depth d o.there (ap (λ (y : Decl). y.kind) (sym o.read) ∙ k)
       ∙ ap (λ (y : Decl). some (recursor_in rs y)) (sym o.read)
 
-  rules_read : x.kind ≡ 2 → 4 * (x.first_rule + x.rules) ≤ length rs
+  rules_read : x.kind ≡ Some kind.Recursor → 4 * (x.first_rule + x.rules) ≤ length rs
   rules_read k =
       let same = sym o.read in
       subst (λ (y : Decl). 4 * (y.first_rule + y.rules) ≤ length rs) same
       (o.counted.asked.stand.tabled.rules d o.there (ap (λ (y : Decl). y.kind) same ∙ k))
 
   module _ (n levels : ℕ) where
-    pub levels_differ : (x.levels ≡ levels → ⊥) → Left l sc m (answer.Final m) sc (recursed l ds rs cs sc g m t n d levels)
+    pub levels_differ : (x.levels ≡ levels → ⊥) → Left l sc m (Ok (Final m)) sc (recursed l ds rs cs sc g m t n d levels)
     levels_differ h = rec_misses o.counted n d levels (other_levels said levels _ λ q. h (sym same_levels ∙ q))
 
-    pub no_recursors : (x.kind ≡ 2 → ⊥) → Left l sc m (answer.Final m) sc (recursed l ds rs cs sc g m t n d levels)
+    pub no_recursors : (x.kind ≡ Some kind.Recursor → ⊥) → Left l sc m (Ok (Final m)) sc (recursed l ds rs cs sc g m t n d levels)
     no_recursors h =
         rec_misses o.counted n d levels
         (not_a_recursor said levels _ (no_recursor ds rs cs g.depth d o.there λ q. h (ap (λ (y : Decl). y.kind) o.read ∙ q)))
 
-    pub too_few : x.levels ≡ levels → x.kind ≡ 2 → count ≤ position_of x → Left l sc m (answer.Final m) sc (recursed l ds rs cs sc g m t n d levels)
+    pub too_few : x.levels ≡ levels → x.kind ≡ Some kind.Recursor → count ≤ position_of x → Left l sc m (Ok (Final m)) sc (recursed l ds rs cs sc g m t n d levels)
     too_few q k h =
         rec_misses o.counted n d levels
         (no_major said levels _ (same_levels ∙ q) (same_recursor k) (omega (arith, o.counted.counted)))
@@ -108,7 +107,7 @@ module _ {l ds rs cs sc : List ℕ} {g : Given} {m : Meter} {t : Ptr} {count d :
 pub record Majored (l ds rs cs sc : List ℕ) (g : Given) (m : Meter) (t : Ptr) (count d levels : ℕ) (x : Decl) (p : Ptr) : Type 0 where
   pub opened : Opened l ds rs cs sc g m t count d x
   pub levelled : x.levels ≡ levels
-  pub kind : x.kind ≡ 2
+  pub kind : x.kind ≡ Some kind.Recursor
   pub inside : position_of x < count
   pub major : spine.Argument (whole l sc) (ptr_of t) count (position_of x) p
 
@@ -127,23 +126,16 @@ module _ {l ds rs cs sc : List ℕ} {g : Given} {m : Meter} {t : Ptr} {count d l
   pub major_asked : Asked l ds rs cs sc g m p
   major_asked = taken_asked c o.major
 
-  pub major_stops : (n : ℕ) {r : Reduced} {sc₁ : List ℕ} {k : ℕ} {a : Answer} →
-      Ran l sc m r sc₁ (res_by l ds rs cs sc g m n (ptr_of p)) → r ≡ Refused k → a ≡ answer_of r →
-      Left l sc m a sc₁ (recursed l ds rs cs sc g m t n d levels)
-  major_stops n k q w = handed_up q w (rec_stops c n d levels the_parts in_scope (ran_as q k))
+  pub major_stops : (n : ℕ) {r : Reduced} {sc₁ : List ℕ} {k : Refusal} →
+      Ran l sc m r sc₁ (res_by l ds rs cs sc g m n (ptr_of p)) → r ≡ Err k → Left l sc m (Err k) sc₁ (recursed l ds rs cs sc g m t n d levels)
+  major_stops n k q = rec_stops c n d levels the_parts in_scope (ran_as q k)
 
 -- THE MAJOR CAME TO q
 
 pub record Reached (l ds rs cs sc : List ℕ) (g : Given) (m : Meter) (t : Ptr) (count d levels : ℕ) (x : Decl) (p : Ptr) (n : ℕ)
     (q : Ptr) (m₁ : Meter) (sc₁ : List ℕ) : Type 0 where
   pub majored : Majored l ds rs cs sc g m t count d levels x p
-  pub ran : Ran l sc m (To q m₁) sc₁ (res_by l ds rs cs sc g m n (ptr_of p))
-
-pub reached : {l ds rs cs sc : List ℕ} {g : Given} {m : Meter} {t : Ptr} {count d levels : ℕ} {x : Decl} {p : Ptr} {n : ℕ}
-    {q : Ptr} {m₁ : Meter} {sc₁ : List ℕ} {r : Reduced} →
-    Majored l ds rs cs sc g m t count d levels x p → Ran l sc m r sc₁ (res_by l ds rs cs sc g m n (ptr_of p)) → r ≡ To q m₁ →
-    Reached l ds rs cs sc g m t count d levels x p n q m₁ sc₁
-reached o k q = record { majored = o; ran = ran_as q k }
+  pub ran : Ran l sc m (Ok (q, m₁)) sc₁ (res_by l ds rs cs sc g m n (ptr_of p))
 
 module _ {l ds rs cs sc : List ℕ} {g : Given} {m : Meter} {t : Ptr} {count d levels : ℕ} {x : Decl} {p : Ptr} {n : ℕ}
     {q : Ptr} {m₁ : Meter} {sc₁ : List ℕ} (o : Reached l ds rs cs sc g m t count d levels x p n q m₁ sc₁) where
@@ -163,37 +155,37 @@ module _ {l ds rs cs sc : List ℕ} {g : Given} {m : Meter} {t : Ptr} {count d l
       let h = headed_of (t_counted c₀ n (in_scope o.majored) o.ran) in
       record { used = h.used; scope = a.scope; small = a.stand.small }
 
-  module _ {r : Made} {sc₂ : List ℕ} (k : Constructed l sc₁ g m₁ (major_of s₁ (ptr_of q)) r sc₂) where
-    pub nothing_made : {m₂ : Meter} → r ≡ made.Nothing m₂ → Left l sc m (answer.Final m₂) sc₂ (recursed l ds rs cs sc g m t n d levels)
+  module _ {r : Construction} {sc₂ : List ℕ} (k : Constructed l sc₁ g m₁ (major_of s₁ (ptr_of q)) r sc₂) where
+    pub nothing_made : {m₂ : Meter} → r ≡ Ok (None, m₂) → Left l sc m (Ok (Final m₂)) sc₂ (recursed l ds rs cs sc g m t n d levels)
     nothing_made {m₂} w =
         no_constructor c₀ n d levels (the_parts o.majored) (in_scope o.majored) o.ran (k.nothing m₂ w e (holders_known c₀ n d levels))
 
-    pub rows_refused : {j : ℕ} → r ≡ made.Refused j → Left l sc m (answer.Refused j) sc₂ (recursed l ds rs cs sc g m t n d levels)
+    pub rows_refused : {j : Refusal} → r ≡ Err j → Left l sc m (Err j) sc₂ (recursed l ds rs cs sc g m t n d levels)
     rows_refused {j} w =
         rows_stop c₀ n d levels (the_parts o.majored) (in_scope o.majored) o.ran (k.refused j w e (holders_known c₀ n d levels)) k.kept k.same_length
 
--- THE CONSTRUCTOR k IS THERE, its arguments at p₂
+-- THE CONSTRUCTOR z IS THERE
 
 pub record Built (l ds rs cs sc : List ℕ) (g : Given) (m : Meter) (t : Ptr) (count d levels : ℕ) (x : Decl) (p : Ptr) (n : ℕ)
-    (q : Ptr) (m₁ : Meter) (sc₁ : List ℕ) (k : ℕ) (p₂ : Ptr) (sp : Spined) (m₂ : Meter) (sc₂ : List ℕ) : Type 0 where
+    (q : Ptr) (m₁ : Meter) (sc₁ : List ℕ) (z : Made) (m₂ : Meter) (sc₂ : List ℕ) : Type 0 where
   pub reached : Reached l ds rs cs sc g m t count d levels x p n q m₁ sc₁
-  pub here : MadeAs l sc₁ g m₁ (major_of (store_of l sc₁ m₁.mark) (ptr_of q) (env_of ds rs cs g.depth)) k p₂ sp m₂ sc₂
+  pub here : MadeAs l sc₁ g m₁ (major_of (store_of l sc₁ m₁.mark) (ptr_of q) (env_of ds rs cs g.depth)) z m₂ sc₂
   pub past : Passed sc₁ m₁ sc₂ m₂
 
 pub built : {l ds rs cs sc : List ℕ} {g : Given} {m : Meter} {t : Ptr} {count d levels : ℕ} {x : Decl} {p : Ptr} {n : ℕ}
-    {q : Ptr} {m₁ : Meter} {sc₁ : List ℕ} {k : ℕ} {p₂ : Ptr} {sp : Spined} {m₂ : Meter} {sc₂ : List ℕ} {r : Made} →
+    {q : Ptr} {m₁ : Meter} {sc₁ : List ℕ} {z : Made} {m₂ : Meter} {sc₂ : List ℕ} {r : Construction} →
     Reached l ds rs cs sc g m t count d levels x p n q m₁ sc₁ →
-    Constructed l sc₁ g m₁ (major_of (store_of l sc₁ m₁.mark) (ptr_of q)) r sc₂ → r ≡ made.As k p₂ sp m₂ →
-    Built l ds rs cs sc g m t count d levels x p n q m₁ sc₁ k p₂ sp m₂ sc₂
-built {d = d} {levels} {n = n} {k = k} {p₂} {sp} {m₂} o h w = record {
+    Constructed l sc₁ g m₁ (major_of (store_of l sc₁ m₁.mark) (ptr_of q)) r sc₂ → r ≡ Ok (Some z, m₂) →
+    Built l ds rs cs sc g m t count d levels x p n q m₁ sc₁ z m₂ sc₂
+built {d = d} {levels} {n = n} {z = z} {m₂} o h w = record {
   reached = o;
-  here = h.made k p₂ sp m₂ w (e o) (holders_known (c₀ o) n d levels);
+  here = h.made z m₂ w (e o) (holders_known (c₀ o) n d levels);
   past = record { kept = h.kept; same_length = h.same_length; grown = h.grown m₂ (ap meter_made w) };
 }
 
 module _ {l ds rs cs sc : List ℕ} {g : Given} {m : Meter} {t : Ptr} {count d levels : ℕ} {x : Decl} {p : Ptr} {n : ℕ}
-    {q : Ptr} {m₁ : Meter} {sc₁ : List ℕ} {k : ℕ} {p₂ : Ptr} {sp : Spined} {m₂ : Meter} {sc₂ : List ℕ}
-    (o : Built l ds rs cs sc g m t count d levels x p n q m₁ sc₁ k p₂ sp m₂ sc₂) where
+    {q : Ptr} {m₁ : Meter} {sc₁ : List ℕ} {z : Made} {m₂ : Meter} {sc₂ : List ℕ}
+    (o : Built l ds rs cs sc g m t count d levels x p n q m₁ sc₁ z m₂ sc₂) where
   abbrev begun : Counted l ds rs cs sc g m t count
   begun = c o.reached.majored
 
@@ -209,7 +201,7 @@ module _ {l ds rs cs sc : List ℕ} {g : Given} {m : Meter} {t : Ptr} {count d l
   still_counted : Counted l ds rs cs sc₂ g m₂ t count
   still_counted = made_counted begun n d levels parts scope o.reached.ran o.here o.past
 
-  pub may_rule : MayRule l rs sc₂ g m₂ x.first_rule x.rules p₂ sp t count (before_of x) (position_of x)
+  pub may_rule : MayRule l rs sc₂ g m₂ x.first_rule x.rules z t count (before_of x) (position_of x)
   may_rule = record {
     headed = headed_of still_counted;
     scope = o.here.scope;
@@ -231,7 +223,7 @@ module _ {l ds rs cs sc : List ℕ} {g : Given} {m : Meter} {t : Ptr} {count d l
   -- so the rule that the code looks up is the rules'
   abbrev looked_up : Option Ruled
   looked_up =
-      ruled_by (records_from 4 rs rule_of x.first_rule x.rules) k (args_of s₂ (ptr_of p₂)) (before_of x) (position_of x) (args_of s₂ (ptr_of t))
+      ruled_by (records_from 4 rs rule_of x.first_rule x.rules) z.constructor (args_of s₂ (ptr_of z.term)) (before_of x) (position_of x) (args_of s₂ (ptr_of t))
 
   same_rule : looked_up ≡ by_rule (recursor_in rs x) (args_of (store_of l sc m.mark) (ptr_of t)) o.here.made
   same_rule =

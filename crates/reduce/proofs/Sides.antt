@@ -1,9 +1,9 @@
--- What the members of the cycle share around a side reduction: the answer as the caller's pattern has it, the refusal handed up, an argument
+-- What the members of the cycle share around a side reduction: the answer as the caller's pattern has it, an argument
 -- of the term whose head is tried, and what the readers of a reduced term are given.
 -- Assumes what a member is given.
 use Prim.Native.Nat.{ℕ, ◌+◌, ◌*◌, ◌/◌, ◌<◌}
 use native.Mathlib.Omega.{arith}
-use mathlib.Core.Path.{◌≡◌, sym, ap, ◌∙◌, subst}
+use mathlib.Core.Path.{◌≡◌, subst}
 use mathlib.Core.List.{List}
 use mathlib.Core.Option.{some}
 use lib.ListN.{length}
@@ -11,7 +11,6 @@ use Rattle.rules.specs.Rows as rules
 use Rattle.rules.specs.RowCheck.{AllPass, InScope}
 use Rattle.rules.specs.Declarations.{nth}
 use Rattle.course.specs.Eval.{Res}
-use Rattle.ways.specs.Steps.{Step}
 use Rattle.ways.specs.Spines.{args_of}
 use Rattle.rows.specs.declared.Ptr.{Ptr}
 use Rattle.rows.specs.Words.{ptr_of, store_of, whole}
@@ -21,15 +20,12 @@ use Rattle.spine.proofs.ForCallers.{scope_at, may_ask, arguments_in_scope, argum
 use Rattle.fields.specs.Fields as fields
 use Rattle.state.specs.declared.Given.{Given}
 use Rattle.state.specs.declared.Meter.{Meter}
-use Rattle.state.specs.declared.Answer.{Answer}
-use Rattle.state.specs.declared.Answer.TheVariants as answer
-use Rattle.state.specs.declared.Reduced.{Reduced}
-use Rattle.state.specs.declared.Reduced.TheVariants.{To, Refused}
-use Rattle.state.specs.State.{Headed, Left}
+use Rattle.state.specs.State.{Reduced}
+use Rattle.state.specs.State.{Headed}
 use Rattle.cycle.specs.Cycle.{Asked, Counted, Ran, res_by}
 use Rattle.cycle.proofs.Standing.{declarations_are, headed_of}
 use Rattle.cycle.proofs.WaysOut.{q_asked, t_counted}
-use Rattle.reduce.specs.Members.{answer_of}
+use Rattle.std.specs.Prelude.{Ok}
 
 -- within a level, the members that ask for a side reduction stand one rank above it
 pub side_falls : {t : ℕ} (n : ℕ) → 6 * n + 1 ≡ t → 6 * n + 0 < t
@@ -38,11 +34,6 @@ side_falls n e = omega arith
 -- THE ANSWER, as the caller's pattern has it
 pub ran_as : {l sc sc₁ : List ℕ} {m : Meter} {r r' : Reduced} {res : Res} → r ≡ r' → Ran l sc m r sc₁ res → Ran l sc m r' sc₁ res
 ran_as {l} {sc} {sc₁} {m} {res = res} e k = subst (λ (o : Reduced). Ran l sc m o sc₁ res) e k
-
--- the refusal, handed up
-pub handed_up : {l sc sc₁ : List ℕ} {m : Meter} {r : Reduced} {a : Answer} {k : ℕ} {step : Step} → r ≡ Refused k → a ≡ answer_of r →
-    Left l sc m (answer.Refused k) sc₁ step → Left l sc m a sc₁ step
-handed_up {l} {sc} {sc₁} {m} {step = step} e h k = subst (λ (o : Answer). Left l sc m o sc₁ step) (sym (h ∙ ap answer_of e)) k
 
 -- A TERM IN SCOPE
 module _ {l ds rs cs sc : List ℕ} {g : Given} {m : Meter} {t : Ptr} (a : Asked l ds rs cs sc g m t) where
@@ -97,7 +88,7 @@ module _ {l ds rs cs sc : List ℕ} {g : Given} {m : Meter} {t : Ptr} {count : �
 pub record Came (l ds rs cs sc : List ℕ) (g : Given) (m : Meter) (t : Ptr) (count n : ℕ) (x : Ptr) (sc₁ : List ℕ) (q : Ptr) (m₁ : Meter) : Type 0 where
   pub given : Counted l ds rs cs sc g m t count
   pub scope : InScope (store_of l sc m.mark) g.depth (ptr_of x)
-  pub ran : Ran l sc m (To q m₁) sc₁ (res_by l ds rs cs sc g m n (ptr_of x))
+  pub ran : Ran l sc m (Ok (q, m₁)) sc₁ (res_by l ds rs cs sc g m n (ptr_of x))
 
 module _ {l ds rs cs sc : List ℕ} {g : Given} {m : Meter} {t : Ptr} {count n : ℕ} {x : Ptr} {sc₁ : List ℕ} {q : Ptr} {m₁ : Meter}
     (k : Came l ds rs cs sc g m t count n x sc₁ q m₁) where

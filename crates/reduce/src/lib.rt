@@ -1,5 +1,6 @@
 // Head reduction: the cycle. `whnf` loops over firings; `at_head` finds the head and tries the rules in the document's order; each
-// rule's side reductions go through `side`, the one place where the remaining nesting falls.
+// rule's side reductions go through `side`, the one place where the remaining nesting falls. Document 01: a side answer is taken apart by
+// `let .. else`, and the else hands the refusal up.
 #![tactic(auto)]
 
 ghost use Rattle.std.specs.Prelude.{◌≡◌, suc, ◌/◌, ◌<◌, length};
@@ -8,44 +9,19 @@ ghost use Rattle.rows.specs.Words.{ptr_of, store_of};
 ghost use Rattle.state.specs.State.{Left};
 ghost use Rattle.cycle.specs.Cycle.{Asked, Counted, Ran, head_by, res_by};
 ghost use Rattle.cycle.specs.Members.{projected, recursed, computed, constantly, quotient};
-ghost use Rattle.reduce.specs.Members.{answer_of, is_tried, QuotLeft};
+ghost use Rattle.reduce.specs.Members.{OpTried, QuotLeft};
 
-use arith::compute;
-use fields::{FieldFound, field_at, quot_made};
+use arith::{Op, compute};
+use fields::{field_at, quot_made};
 use firing::{give, give_with, open, unfold_def, variable};
-use majors::{Made, NumberFound, by_rule, constructor_of, number_at, op_of, write_outcome};
+use majors::{by_rule, constructor_of, number_at, op_of, write_outcome};
+use rows::kinds::Kind;
+use rows::refusals::Refusal;
 use rows::{Ptr, row_at, shape_of, shift_up};
 use spine::{argument, head_of};
-use state::{Answer, Given, Meter, NOBODY, Reduced};
-use tables::decl_at;
-
-// The codes of declarations, of roles and of rows that are told apart here.
-const RECURSOR: u32 = 2;
-
-const VARIABLE: u32 = 0;
-
-const CONSTANT: u32 = 2;
-
-const LAMBDA: u32 = 4;
-
-const LET: u32 = 6;
-
-const PROJECTION: u32 = 7;
-
-const QUOT_LIFT: u32 = 7;
-
-const QUOT_IND: u32 = 8;
-
-// add is the first operation, ble the last; from beq on an operation answers true or false
-const ADD: u32 = 9;
-
-const BEQ: u32 = 14;
-
-const BLE: u32 = 15;
-
-const TRUE: usize = 4;
-
-const FALSE: usize = 5;
+use state::{Answer, Given, Meter, Reduced, Tried};
+use tables::codes::{DeclKind, Role};
+use tables::{Lent, decl_at};
 
 // Positions from 0: the major of Quot.lift and of Quot.ind, and the function of both.
 const LIFT_MAJOR: u32 = 5;
@@ -54,60 +30,30 @@ const IND_MAJOR: u32 = 4;
 
 const QUOT_FUNCTION: u32 = 3;
 
-// A side reduction's refusal, handed up.
-fn as_answer(r: Reduced) -> Answer
-    ensures { result ≡ answer_of r }
-{
-    match r {
-        Reduced::To(p, m) => {
-            return Answer::Term(p, m);
-        }
-        Reduced::Refused(k) => {
-            return Answer::Refused(k);
-        }
-    }
-}
-
 // A side reduction: one nesting level deeper, or 6.
-#[cycle(at_head_constant_quot_major_reduce_arith_reduce_proj_reduce_quot_reduce_rec_side_whnf)]
+#[cycle(whnf)]
 pub fn side(
-    library: &[u32],
-    decls: &[u32],
-    rules: &[u32],
-    context: &[u32],
+    lent: Lent<'_>,
     scratch: &mut [u32],
     g: Given,
     m: Meter,
     p: Ptr,
     nesting: u32,
 ) -> Reduced
-    requires { Asked library.now decls.now rules.now context.now scratch.old g m p }
-    ensures { Ran library.now scratch.old m result scratch.new (res_by library.now decls.now
-        rules.now context.now scratch.old g m nesting (ptr_of p)) }
+    requires { Asked lent.library.now lent.declarations.now lent.rules.now lent.context.now scratch.old g m p }
+    ensures { Ran lent.entry.library.now scratch.old m result scratch.new (res_by lent.entry.library.now
+        lent.entry.declarations.now lent.entry.rules.now lent.entry.context.now scratch.old g m nesting (ptr_of p)) }
 {
     if nesting == 0 {
-        return Reduced::Refused(6);
+        return Err(Refusal::NoLevel);
     }
-    whnf(
-        library,
-        decls,
-        rules,
-        context,
-        scratch,
-        g,
-        m,
-        p,
-        nesting - 1,
-    )
+    whnf(lent, scratch, g, m, p, nesting - 1)
 }
 
 // Projection: the structure must end in a constructor with an argument at parameters + index.
-#[cycle(at_head_constant_quot_major_reduce_arith_reduce_proj_reduce_quot_reduce_rec_side_whnf)]
+#[cycle(whnf)]
 fn reduce_proj(
-    library: &[u32],
-    decls: &[u32],
-    rules: &[u32],
-    context: &[u32],
+    lent: Lent<'_>,
     scratch: &mut [u32],
     g: Given,
     m: Meter,
@@ -117,31 +63,25 @@ fn reduce_proj(
     count: u32,
     nesting: u32,
 ) -> Answer
-    requires counted { Counted library.now decls.now rules.now context.now scratch.old g m t count }
-    requires in_scope { InScope (store_of library.now scratch.old m.mark) g.depth (ptr_of structure) }
-    ensures { Left library.now scratch.old m result scratch.new (projected library.now
-        decls.now rules.now context.now scratch.old g m t nesting structure index) }
+    requires counted { Counted lent.library.now lent.declarations.now lent.rules.now lent.context.now scratch.old g m t count }
+    requires in_scope { InScope (store_of lent.library.now scratch.old m.mark) g.depth (ptr_of structure) }
+    ensures { Left lent.entry.library.now scratch.old m result scratch.new (projected lent.entry.library.now
+        lent.entry.declarations.now lent.entry.rules.now lent.entry.context.now scratch.old g m t nesting structure index) }
 {
-    let got = side(
-        library, decls, rules, context, scratch, g, m, structure, nesting,
-    );
-    let Reduced::To(q, m1) = got else {
-        return as_answer(got);
+    let got = side(lent, scratch, g, m, structure, nesting);
+    let Ok((q, m1)) = got else {
+        return Err(got.unwrap_err());
     };
-    let found = field_at(library, decls, &scratch[..], q, index);
-    let FieldFound::Found(a) = found else {
-        return Answer::Final(m1);
+    let Some(a) = field_at(lent.library, lent.declarations, scratch, q, index) else {
+        return Ok(Tried::Final(m1));
     };
-    give(library, scratch, g, m1, a, t, count, 0)
+    give(lent.library, scratch, g, m1, a, t, count, 0)
 }
 
 // Quot.lift and Quot.ind with the major at `position`: it must end in Quot.mk with exactly three arguments.
-#[cycle(at_head_constant_quot_major_reduce_arith_reduce_proj_reduce_quot_reduce_rec_side_whnf)]
+#[cycle(whnf)]
 fn quot_major(
-    library: &[u32],
-    decls: &[u32],
-    rules: &[u32],
-    context: &[u32],
+    lent: Lent<'_>,
     scratch: &mut [u32],
     g: Given,
     m: Meter,
@@ -150,35 +90,30 @@ fn quot_major(
     count: u32,
     nesting: u32,
 ) -> Answer
-    requires counted { Counted library.now decls.now rules.now context.now scratch.old g m t count }
+    requires counted { Counted lent.library.now lent.declarations.now lent.rules.now lent.context.now scratch.old g m t count }
     requires lt_position { (3 < position) × (position < 6) }
-    ensures { QuotLeft library.now decls.now rules.now context.now scratch.old g m t nesting position result scratch.new }
+    ensures { QuotLeft lent.entry.library.now lent.entry.declarations.now lent.entry.rules.now
+        lent.entry.context.now scratch.old g m t nesting position result scratch.new }
 {
     if count <= position {
-        return Answer::Final(m);
+        return Ok(Tried::Final(m));
     }
-    let major = argument(library, &scratch[..], t, count, position);
-    let got = side(
-        library, decls, rules, context, scratch, g, m, major, nesting,
-    );
-    let Reduced::To(q, m1) = got else {
-        return as_answer(got);
+    let major = argument(lent.library, scratch, t, count, position);
+    let got = side(lent, scratch, g, m, major, nesting);
+    let Ok((q, m1)) = got else {
+        return Err(got.unwrap_err());
     };
-    let found = quot_made(library, decls, &scratch[..], q);
-    let FieldFound::Found(a) = found else {
-        return Answer::Final(m1);
+    let Some(a) = quot_made(lent.library, lent.declarations, scratch, q) else {
+        return Ok(Tried::Final(m1));
     };
-    let f = argument(library, &scratch[..], t, count, QUOT_FUNCTION);
-    give_with(library, scratch, g, m1, f, a, t, count, position + 1)
+    let f = argument(lent.library, scratch, t, count, QUOT_FUNCTION);
+    give_with(lent.library, scratch, g, m1, f, a, t, count, position + 1)
 }
 
 // Which of the two quotient rules the role asks for, if any.
-#[cycle(at_head_constant_quot_major_reduce_arith_reduce_proj_reduce_quot_reduce_rec_side_whnf)]
+#[cycle(whnf)]
 fn reduce_quot(
-    library: &[u32],
-    decls: &[u32],
-    rules: &[u32],
-    context: &[u32],
+    lent: Lent<'_>,
     scratch: &mut [u32],
     g: Given,
     m: Meter,
@@ -187,33 +122,26 @@ fn reduce_quot(
     count: u32,
     nesting: u32,
 ) -> Answer
-    requires counted { Counted library.now decls.now rules.now context.now scratch.old g m t count }
-    requires declaration_in_bounds { declaration < length decls.now / 16 }
-    ensures { Left library.now scratch.old m result scratch.new (quotient library.now
-        decls.now rules.now context.now scratch.old g m t nesting declaration) }
+    requires counted { Counted lent.library.now lent.declarations.now lent.rules.now lent.context.now scratch.old g m t count }
+    requires declaration_in_bounds { declaration < length lent.declarations.now / 16 }
+    ensures { Left lent.entry.library.now scratch.old m result scratch.new (quotient lent.entry.library.now
+        lent.entry.declarations.now lent.entry.rules.now lent.entry.context.now scratch.old g m t nesting declaration) }
 {
-    let role = decl_at(decls, declaration).role;
-    if role == QUOT_LIFT {
-        return quot_major(
-            library, decls, rules, context, scratch, g, m, LIFT_MAJOR, t, count, nesting,
-        );
+    let Some(role) = decl_at(lent.declarations, declaration).role else {
+        return Ok(Tried::Final(m));
+    };
+    match role {
+        Role::QuotLift => quot_major(lent, scratch, g, m, LIFT_MAJOR, t, count, nesting),
+        Role::QuotInd => quot_major(lent, scratch, g, m, IND_MAJOR, t, count, nesting),
+        _ => Ok(Tried::Final(m)),
     }
-    if role == QUOT_IND {
-        return quot_major(
-            library, decls, rules, context, scratch, g, m, IND_MAJOR, t, count, nesting,
-        );
-    }
-    Answer::Final(m)
 }
 
 // A recursor whose count of levels is right: the major as a constructor, and the rule for it. The position is a sum in 64 bits, since
-// each count is any u32.
-#[cycle(at_head_constant_quot_major_reduce_arith_reduce_proj_reduce_quot_reduce_rec_side_whnf)]
+// each count is any u32; `as` widens it, and the sum stands in the proofs as it stands here, without a law of `from` for each term.
+#[cycle(whnf)]
 fn reduce_rec(
-    library: &[u32],
-    decls: &[u32],
-    rules: &[u32],
-    context: &[u32],
+    lent: Lent<'_>,
     scratch: &mut [u32],
     g: Given,
     m: Meter,
@@ -223,79 +151,67 @@ fn reduce_rec(
     count: u32,
     nesting: u32,
 ) -> Answer
-    requires counted { Counted library.now decls.now rules.now context.now scratch.old g m t count }
-    requires declaration_in_bounds { declaration < length decls.now / 16 }
-    ensures { Left library.now scratch.old m result scratch.new (recursed library.now
-        decls.now rules.now context.now scratch.old g m t nesting declaration levels) }
+    requires counted { Counted lent.library.now lent.declarations.now lent.rules.now lent.context.now scratch.old g m t count }
+    requires declaration_in_bounds { declaration < length lent.declarations.now / 16 }
+    ensures { Left lent.entry.library.now scratch.old m result scratch.new (recursed lent.entry.library.now
+        lent.entry.declarations.now lent.entry.rules.now lent.entry.context.now scratch.old g m t nesting declaration levels) }
 {
-    let d = decl_at(decls, declaration);
+    let d = decl_at(lent.declarations, declaration);
     if d.levels != levels {
-        return Answer::Final(m);
+        return Ok(Tried::Final(m));
     }
-    if d.kind != RECURSOR {
-        return Answer::Final(m);
+    if d.kind != Some(DeclKind::Recursor) {
+        return Ok(Tried::Final(m));
     }
     let before = (d.parameters as u64) + (d.second as u64) + (d.minors as u64);
     let position = before + (d.indices as u64);
     if (count as u64) <= position {
-        return Answer::Final(m);
+        return Ok(Tried::Final(m));
     }
-    let major = argument(library, &scratch[..], t, count, position as u32);
-    let got = side(
-        library, decls, rules, context, scratch, g, m, major, nesting,
-    );
-    let Reduced::To(q, m1) = got else {
-        return as_answer(got);
+    let major = argument(lent.library, scratch, t, count, position as u32);
+    let got = side(lent, scratch, g, m, major, nesting);
+    let Ok((q, m1)) = got else {
+        return Err(got.unwrap_err());
     };
-    match constructor_of(library, scratch, g, m1, q) {
-        Made::Nothing(m2) => Answer::Final(m2),
-        Made::Refused(k) => Answer::Refused(k),
-        Made::As(c, p, sp, m2) => by_rule(
-            library,
-            rules,
-            scratch,
-            g,
-            m2,
-            d.first_rule,
-            d.rules,
-            c,
-            p,
-            sp,
-            t,
-            count,
-            before as u32,
-            position as u32,
-        ),
-    }
+    let (made, m2) = constructor_of(lent.library, scratch, g, m1, q)?;
+    let Some(made) = made else {
+        return Ok(Tried::Final(m2));
+    };
+    by_rule(
+        lent.library,
+        lent.rules,
+        scratch,
+        g,
+        m2,
+        d.first_rule,
+        d.rules,
+        made,
+        t,
+        count,
+        before as u32,
+        position as u32,
+    )
 }
 
 // An operation's role; beq and ble only if true and false are held.
-fn is_tried(g: Given, role: u32) -> bool
-    ensures { result ≡ is_tried g.holders role }
+fn tried_op(g: Given, role: Option<Role>) -> Option<Op>
+    ensures { OpTried g.holders role result }
 {
-    if role < ADD {
-        return false;
+    let op = op_of(role?)?;
+    match op {
+        Op::Beq | Op::Ble => {
+            g.holders.holder(Role::True)?;
+            g.holders.holder(Role::False)?;
+            Some(op)
+        }
+        _ => Some(op),
     }
-    if BLE < role {
-        return false;
-    }
-    if role < BEQ {
-        return true;
-    }
-    let holders = g.holders;
-    if holders[TRUE] == NOBODY {
-        return false;
-    }
-    holders[FALSE] != NOBODY
 }
 
 // Arithmetic with exactly two arguments: both must end in numbers, first then second.
-#[cycle(at_head_constant_quot_major_reduce_arith_reduce_proj_reduce_quot_reduce_rec_side_whnf)]
+#[cycle(whnf)]
 fn reduce_arith(
-    library: &[u32],
-    decls: &[u32],
-    rules: &[u32],
-    context: &[u32],
+    lent: Lent<'_>,
     scratch: &mut [u32],
     g: Given,
     m: Meter,
@@ -304,50 +220,40 @@ fn reduce_arith(
     count: u32,
     nesting: u32,
 ) -> Answer
-    requires counted { Counted library.now decls.now rules.now context.now scratch.old g m t count }
-    requires declaration_in_bounds { declaration < length decls.now / 16 }
-    ensures { Left library.now scratch.old m result scratch.new (computed library.now
-        decls.now rules.now context.now scratch.old g m t nesting declaration) }
+    requires counted { Counted lent.library.now lent.declarations.now lent.rules.now lent.context.now scratch.old g m t count }
+    requires declaration_in_bounds { declaration < length lent.declarations.now / 16 }
+    ensures { Left lent.entry.library.now scratch.old m result scratch.new (computed lent.entry.library.now
+        lent.entry.declarations.now lent.entry.rules.now lent.entry.context.now scratch.old g m t nesting declaration) }
 {
-    let role = decl_at(decls, declaration).role;
-    if !is_tried(g, role) {
-        return Answer::Final(m);
-    }
+    let Some(op) = tried_op(g, decl_at(lent.declarations, declaration).role) else {
+        return Ok(Tried::Final(m));
+    };
     if count != 2 {
-        return Answer::Final(m);
+        return Ok(Tried::Final(m));
     }
-    let first = argument(library, &scratch[..], t, count, 0);
-    let got = side(
-        library, decls, rules, context, scratch, g, m, first, nesting,
-    );
-    let Reduced::To(q, m1) = got else {
-        return as_answer(got);
+    let first = argument(lent.library, scratch, t, count, 0);
+    let got = side(lent, scratch, g, m, first, nesting);
+    let Ok((q, m1)) = got else {
+        return Err(got.unwrap_err());
     };
-    let found = number_at(library, &scratch[..], q);
-    let NumberFound::Found(x) = found else {
-        return Answer::Final(m1);
+    let Some(x) = number_at(lent.library, scratch, q) else {
+        return Ok(Tried::Final(m1));
     };
-    let second = argument(library, &scratch[..], t, count, 1);
-    let next = side(
-        library, decls, rules, context, scratch, g, m1, second, nesting,
-    );
-    let Reduced::To(q2, m2) = next else {
-        return as_answer(next);
+    let second = argument(lent.library, scratch, t, count, 1);
+    let next = side(lent, scratch, g, m1, second, nesting);
+    let Ok((q2, m2)) = next else {
+        return Err(next.unwrap_err());
     };
-    let other = number_at(library, &scratch[..], q2);
-    let NumberFound::Found(y) = other else {
-        return Answer::Final(m2);
+    let Some(y) = number_at(lent.library, scratch, q2) else {
+        return Ok(Tried::Final(m2));
     };
-    write_outcome(library, scratch, g, m2, compute(op_of(role), x, y))
+    write_outcome(lent.library, scratch, g, m2, compute(op, x, y))
 }
 
 // A constant: the rules in order, each from the rows and steps that the missed one before it left.
-#[cycle(at_head_constant_quot_major_reduce_arith_reduce_proj_reduce_quot_reduce_rec_side_whnf)]
+#[cycle(whnf)]
 fn constant(
-    library: &[u32],
-    decls: &[u32],
-    rules: &[u32],
-    context: &[u32],
+    lent: Lent<'_>,
     scratch: &mut [u32],
     g: Given,
     m: Meter,
@@ -357,113 +263,52 @@ fn constant(
     count: u32,
     nesting: u32,
 ) -> Answer
-    requires counted { Counted library.now decls.now rules.now context.now scratch.old g m t count }
-    requires declaration_in_bounds { declaration < length decls.now / 16 }
-    ensures { Left library.now scratch.old m result scratch.new (constantly library.now
-        decls.now rules.now context.now scratch.old g m t nesting declaration levels) }
+    requires counted { Counted lent.library.now lent.declarations.now lent.rules.now lent.context.now scratch.old g m t count }
+    requires declaration_in_bounds { declaration < length lent.declarations.now / 16 }
+    ensures { Left lent.entry.library.now scratch.old m result scratch.new (constantly lent.entry.library.now
+        lent.entry.declarations.now lent.entry.rules.now lent.entry.context.now scratch.old g m t nesting declaration levels) }
 {
-    let by_quot = reduce_quot(
-        library,
-        decls,
-        rules,
-        context,
-        scratch,
-        g,
-        m,
-        declaration,
-        t,
-        count,
-        nesting,
-    );
-    let Answer::Final(m1) = by_quot else {
-        return by_quot;
+    let by_quot = reduce_quot(lent, scratch, g, m, declaration, t, count, nesting)?;
+    let Tried::Final(m1) = by_quot else {
+        return Ok(by_quot);
     };
-    let by_rec = reduce_rec(
-        library,
-        decls,
-        rules,
-        context,
-        scratch,
-        g,
-        m1,
-        declaration,
-        levels,
-        t,
-        count,
-        nesting,
-    );
-    let Answer::Final(m2) = by_rec else {
-        return by_rec;
+    let by_rec = reduce_rec(lent, scratch, g, m1, declaration, levels, t, count, nesting)?;
+    let Tried::Final(m2) = by_rec else {
+        return Ok(by_rec);
     };
-    let by_arith = reduce_arith(
-        library,
-        decls,
-        rules,
-        context,
-        scratch,
-        g,
-        m2,
-        declaration,
-        t,
-        count,
-        nesting,
-    );
-    let Answer::Final(m3) = by_arith else {
-        return by_arith;
+    let by_arith = reduce_arith(lent, scratch, g, m2, declaration, t, count, nesting)?;
+    let Tried::Final(m3) = by_arith else {
+        return Ok(by_arith);
     };
-    unfold_def(
-        library,
-        scratch,
-        g,
-        m3,
-        decl_at(decls, declaration),
-        levels,
-        t,
-        count,
-    )
+    let d = decl_at(lent.declarations, declaration);
+    unfold_def(lent.library, scratch, g, m3, d, levels, t, count)
 }
 
 // The rules at the head, by the head's kind.
-#[cycle(at_head_constant_quot_major_reduce_arith_reduce_proj_reduce_quot_reduce_rec_side_whnf)]
-fn at_head(
-    library: &[u32],
-    decls: &[u32],
-    rules: &[u32],
-    context: &[u32],
-    scratch: &mut [u32],
-    g: Given,
-    m: Meter,
-    t: Ptr,
-    nesting: u32,
-) -> Answer
-    requires { Asked library.now decls.now rules.now context.now scratch.old g m t }
-    ensures { Left library.now scratch.old m result scratch.new (head_by library.now decls.now
-        rules.now context.now scratch.old g m nesting (ptr_of t)) }
+#[cycle(whnf)]
+fn at_head(lent: Lent<'_>, scratch: &mut [u32], g: Given, m: Meter, t: Ptr, nesting: u32) -> Answer
+    requires { Asked lent.library.now lent.declarations.now lent.rules.now lent.context.now scratch.old g m t }
+    ensures { Left lent.entry.library.now scratch.old m result scratch.new (head_by lent.entry.library.now
+        lent.entry.declarations.now lent.entry.rules.now lent.entry.context.now scratch.old g m nesting (ptr_of t)) }
 {
-    let s = head_of(library, &scratch[..], t);
+    let s = head_of(lent.library, scratch, t);
     let h = s.head;
-    let w = shape_of(row_at(library, &scratch[..], h.row));
-    let kind = w.kind;
+    let w = shape_of(row_at(lent.library, scratch, h.row));
     let first = w.first;
     let second = w.second;
-    if kind == VARIABLE {
-        return variable(
-            library,
-            context,
+    match Kind::known(w.kind) {
+        Kind::Variable => variable(
+            lent.library,
+            lent.context,
             scratch,
             g,
             m,
             first.row + h.shift,
             t,
             s.count,
-        );
-    }
-    if kind == CONSTANT {
-        return constant(
-            library,
-            decls,
-            rules,
-            context,
+        ),
+        Kind::Constant => constant(
+            lent,
             scratch,
             g,
             m,
@@ -472,71 +317,82 @@ fn at_head(
             t,
             s.count,
             nesting,
-        );
-    }
-    if kind == LAMBDA {
-        if s.count == 0 {
-            return Answer::Final(m);
+        ),
+        Kind::Lambda => {
+            if s.count == 0 {
+                return Ok(Tried::Final(m));
+            }
+            let a = argument(lent.library, scratch, t, s.count, 0);
+            open(
+                lent.library,
+                scratch,
+                g,
+                m,
+                second,
+                a,
+                h.shift,
+                t,
+                s.count,
+                1,
+            )
         }
-        let a = argument(library, &scratch[..], t, s.count, 0);
-        return open(library, scratch, g, m, second, a, h.shift, t, s.count, 1);
+        Kind::Let => {
+            let value = shift_up(lent.library, scratch, second, h.shift);
+            open(
+                lent.library,
+                scratch,
+                g,
+                m,
+                w.third,
+                value,
+                h.shift,
+                t,
+                s.count,
+                0,
+            )
+        }
+        Kind::Projection => {
+            let structure = shift_up(lent.library, scratch, first, h.shift);
+            reduce_proj(
+                lent,
+                scratch,
+                g,
+                m,
+                structure,
+                second.shift,
+                t,
+                s.count,
+                nesting,
+            )
+        }
+        _ => Ok(Tried::Final(m)),
     }
-    if kind == LET {
-        let value = shift_up(library, &scratch[..], second, h.shift);
-        return open(
-            library, scratch, g, m, w.third, value, h.shift, t, s.count, 0,
-        );
-    }
-    if kind == PROJECTION {
-        let structure = shift_up(library, &scratch[..], first, h.shift);
-        return reduce_proj(
-            library,
-            decls,
-            rules,
-            context,
-            scratch,
-            g,
-            m,
-            structure,
-            second.shift,
-            t,
-            s.count,
-            nesting,
-        );
-    }
-    Answer::Final(m)
 }
 
 // Weak-head normal form: as long as a rule fires, go on with its result.
-#[cycle(at_head_constant_quot_major_reduce_arith_reduce_proj_reduce_quot_reduce_rec_side_whnf)]
+#[cycle(whnf)]
 pub fn whnf(
-    library: &[u32],
-    decls: &[u32],
-    rules: &[u32],
-    context: &[u32],
+    lent: Lent<'_>,
     scratch: &mut [u32],
     g: Given,
     m: Meter,
     t: Ptr,
     nesting: u32,
 ) -> Reduced
-    requires { Asked library.now decls.now rules.now context.now scratch.old g m t }
-    ensures { Ran library.now scratch.old m result scratch.new (res_by library.now decls.now
-        rules.now context.now scratch.old g m (suc nesting) (ptr_of t)) }
+    requires { Asked lent.library.now lent.declarations.now lent.rules.now lent.context.now scratch.old g m t }
+    ensures { Ran lent.entry.library.now scratch.old m result scratch.new (res_by lent.entry.library.now
+        lent.entry.declarations.now lent.entry.rules.now lent.entry.context.now scratch.old g m (suc nesting) (ptr_of t)) }
 {
     let mut at = m;
     let mut p = t;
     loop {
-        match at_head(library, decls, rules, context, scratch, g, at, p, nesting) {
-            Answer::Term(q, m1) => {
+        match at_head(lent, scratch, g, at, p, nesting)? {
+            Tried::Term(q, m1) => {
                 p = q;
                 at = m1;
             }
-            Answer::Final(m1) => {
-                return Reduced::To(p, m1);
-            }
-            Answer::Refused(k) => {
-                return Reduced::Refused(k);
+            Tried::Final(m1) => {
+                return Ok((p, m1));
             }
         }
     }

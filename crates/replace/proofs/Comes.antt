@@ -1,7 +1,6 @@
 -- An answer of the course's replacement is the rules' own: a pointer is what they replace to, with every row passing, and a refusal is the
 -- first of their due rows that may not stand. Assumes that every row passes and that pointer and value are good.
 use Prim.Native.Nat.{ℕ, ◌≤◌}
-use native.Mathlib.Omega.{arith}
 use mathlib.Core.Path.{◌≡◌, refl, sym, ◌∙◌, subst}
 use mathlib.Core.Option.{Option, none, some}
 use lib.ListN.{length}
@@ -72,13 +71,13 @@ module _ (D : ℕ) (v : Option Ptr) (k c : ℕ) (s : Store) (p : Ptr) (most f : 
         pass = replace_pass pass good value q w;
         good = (replace_keeps (pass_formed pass) good value q).good;
       })
-  came_by q (c_no d l n) e = absurd (let z : ◌≡◌ {A = ℕ} 0 1 = cc in omega arith)
+  came_by q (c_no d l n) e = absurd cc
 
   pub came : {g : Got} → wrote g ≡ replace_in most v k f c s p → Came D v k c s p g
   came e = came_by settles.replaces settles.charged (sym settles.is ∙ sym e)
 
   stopped_by : {n : ℕ} {g : Got} {o : Option ℕ} → Replaces v k c s p g → ChargeSays lim s g.store o → settle_on g o ≡ refused n → Stopped most v k c s p n
-  stopped_by q (c_all w l) e = absurd (let z : ◌≡◌ {A = ℕ} 0 1 = cc in omega arith)
+  stopped_by q (c_all w l) e = absurd cc
   stopped_by {n} {g} q (c_no {k = i} {x = x} {now = now} d l fails) e =
       let z : i ≡ n = cc in
       record { due = g; replaces = q; row = x; now = now; is_due = d; fails = subst (RowFails lim now x) z fails }

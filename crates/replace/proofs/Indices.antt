@@ -1,10 +1,11 @@
--- The ways out of a variable's row, each as the course has it: the index stays, is the value, or moves and is written.
--- Assumes nothing.
+-- The ways out of a variable's row, each as the course has it: the index is the value, or moves and is written. That it stays needs no
+-- lemma. Assumes nothing.
 use Prim.Native.Nat.{ℕ, zero, suc, ◌+◌, ◌-◌, ◌≤◌, ◌<◌}
 use native.Mathlib.Omega.{arith}
-use mathlib.Core.Path.{◌≡◌, refl, sym, ap, subst, ◌∙◌}
+use mathlib.Core.Path.{◌≡◌, refl, ap, subst, ◌∙◌}
 use mathlib.Core.List.{List}
-use mathlib.Core.Option.{Option, none, some}
+use mathlib.Core.Option as maybe
+use mathlib.Core.Option.{none, some}
 use lib.ListN.{length}
 use Rattle.rules.specs.Rows as rules
 use Rattle.rules.specs.Rows.{Row, Store, var, cell, cell_at, up, up_on, Got, got, put}
@@ -15,29 +16,28 @@ use Rattle.course.specs.Charged.{put_on, put_in, index_in}
 use Rattle.substitution.specs.Stores.{put-length}
 use Rattle.substitution.specs.Existence.{ValueGood, some_good}
 use Rattle.rows.specs.declared.Ptr.{Ptr}
-use Rattle.rows.specs.declared.Out.{Out}
-use Rattle.rows.specs.declared.Out.TheVariants.{Done, Refused}
+use Rattle.rows.specs.declared.refusals.Refusal.{Refusal}
+use Rattle.rows.specs.Refusals.{Out}
+use Rattle.std.specs.Prelude.{Option, Ok, Err, Some, None}
 use Rattle.rows.specs.Words.{ptr_of, store_of, whole, Stands, Held}
 use Rattle.rows.specs.Writes.{Wrote}
+use Rattle.rows.proofs.RefusalNumbers.{same_mark, same_at}
 use Rattle.rows.proofs.Store.{used_stands, up_used, held_length}
 use Rattle.rows.proofs.InTurn.{wrote_nothing, done_held}
 use Rattle.replace.specs.declared.Sub.{Sub}
-use Rattle.replace.specs.Replaced.{value_by, value_of, most_rows, IndexReady, IndexDone, Near}
+use Rattle.replace.specs.Replaced.{value_by, value_of, shift_of, most_rows, IndexReady, IndexDone, Near}
 use Rattle.replace.proofs.Later.{says_also}
 
 -- NEAR ANSWERS
 
-pub near_done : {nlib most m : ℕ} {p : Ptr} → p.row < nlib + m → p.shift ≤ most → Near nlib most (Done p m)
+pub near_done : {nlib most m : ℕ} {p : Ptr} → p.row < nlib + m → p.shift ≤ most → Near nlib most (Ok (p, m))
 near_done {nlib} {most} {m} {p} below shift = record {
-  below = λ q m' e. let a : p ≡ q = cc in let b : m ≡ m' = cc in subst (λ (r : Ptr). r.row < nlib + m') a (subst (λ (n : ℕ). p.row < nlib + n) b below);
-  shift = λ q m' e. let a : p ≡ q = cc in subst (λ (r : Ptr). r.shift ≤ most) a shift;
+  below = λ q m' e. subst (λ (r : Ptr). r.row < nlib + m') (same_at e) (subst (λ (n : ℕ). p.row < nlib + n) (same_mark e) below);
+  shift = λ q m' e. subst (λ (r : Ptr). r.shift ≤ most) (same_at e) shift;
 }
 
-pub near_refused : {nlib most n : ℕ} → Near nlib most (Refused n)
-near_refused = record {
-  below = λ q m' e. absurd (let z : ◌≡◌ {A = ℕ} 0 1 = cc in omega arith);
-  shift = λ q m' e. absurd (let z : ◌≡◌ {A = ℕ} 0 1 = cc in omega arith);
-}
+pub near_refused : {nlib most : ℕ} {k : Refusal} → Near nlib most (Err k)
+near_refused = record { below = λ q m' e. absurd cc; shift = λ q m' e. absurd cc }
 
 pub near_wider : {nlib a b : ℕ} {r : Out} → a ≤ b → Near nlib a r → Near nlib b r
 near_wider h n = record { below = n.below; shift = λ q m' e. let k = n.shift q m' e in omega arith }
@@ -48,15 +48,15 @@ unfolding put_in
 put_at most s w g e = go (fit_view (cell s w)) (cmp most (length s)) e
   where
     go : (f : FitView (cell s w)) (q : Cmp most (length s)) → course.wrote g ≡ put_on most s w f q → put s w ≡ g
-    go (no_fit h) q e = absurd (let z : ◌≡◌ {A = ℕ} 0 1 = cc in omega arith)
-    go (fits h) (up_to l) e = absurd (let z : ◌≡◌ {A = ℕ} 0 1 = cc in omega arith)
+    go (no_fit h) q e = absurd cc
+    go (fits h) (up_to l) e = absurd cc
     go (fits h) (over l) e = cc
 
 -- the row that a writer was asked for: the pointer to it has no shift
 module _ (l sc : List ℕ) (nlib m most : ℕ) (w : Row) (held : Held l sc m nlib) where
   pub near_put : (z : ℕ) (r : Out) (sc' : List ℕ) → Wrote l sc m r sc' (put_in most (store_of l sc m) w) → Near nlib z r
-  near_put z (Refused n) sc' wrote = near_refused
-  near_put z (Done p m') sc' wrote = near_done (omega (arith, row, length_now, many, put-length (store_of l sc m) w)) (omega (arith, shift))
+  near_put z (Err k) sc' wrote = near_refused
+  near_put z (Ok (p, m')) sc' wrote = near_done (omega (arith, row, length_now, many, put-length (store_of l sc m) w)) (omega (arith, shift))
     where
       is : put (store_of l sc m) w ≡ got (store_of l sc' m') (ptr_of p)
       is = put_at most (store_of l sc m) w (got (store_of l sc' m') (ptr_of p)) wrote.says
@@ -80,22 +80,14 @@ up_near (suc b) p k = (refl, omega arith)
 
 -- THE COURSE'S CASES
 
-pub count_is : (n : ℕ) (v : rules.Ptr) → n ≤ 1 → count (value_by n v) ≡ n
-count_is zero v h = refl
-count_is (suc zero) v h = refl
-count_is (suc (suc n)) v h = absurd (omega arith)
-
-module _ (most : ℕ) (v : Option rules.Ptr) (k c : ℕ) (s : Store) (r i : ℕ) where
-  index_stays : i < c → (w : Option rules.Ptr) (a : Cmp c i) (b : Cmp i c) → course.wrote (got s (rules.ptr r 0)) ≡ index_in most v k w c s r i a b
-  index_stays h w (over l) b = refl
-  index_stays h w (up_to l) b = absurd (omega arith)
-
+module _ (most : ℕ) (v : maybe.Option rules.Ptr) (k c : ℕ) (s : Store) (r i : ℕ) where
   index_value : (x : rules.Ptr) → i ≡ c → (a : Cmp c i) (b : Cmp i c) → course.wrote (got s (up s x c)) ≡ index_in most v k (some x) c s r i a b
   index_value x h (over l) b = absurd (omega arith)
   index_value x h (up_to l) (over q) = absurd (omega arith)
   index_value x h (up_to l) (up_to q) = refl
 
-  index_moves : (w : Option rules.Ptr) → c + count w ≤ i → (a : Cmp c i) (b : Cmp i c) → put_in most s (var (i - count v + k)) ≡ index_in most v k w c s r i a b
+  index_moves : (w : maybe.Option rules.Ptr) → c + count w ≤ i → (a : Cmp c i) (b : Cmp i c) →
+      put_in most s (var (i - count v + k)) ≡ index_in most v k w c s r i a b
   index_moves none h (over l) b = absurd (omega arith)
   index_moves none h (up_to l) (over q) = refl
   index_moves none h (up_to l) (up_to q) = refl
@@ -105,52 +97,51 @@ module _ (most : ℕ) (v : Option rules.Ptr) (k c : ℕ) (s : Store) (r i : ℕ)
 
 -- THE CODE'S WAYS OUT
 
-module _ (l sc : List ℕ) (nlib m row i c : ℕ) (x : Sub) (given : IndexReady l sc nlib m row i c x) where
+value_lower : {s : Store} {v : rules.Ptr} → ValueGood s (some v) → v.row < length s
+value_lower (some_good o) = o.lower
+
+module _ {l sc : List ℕ} {nlib m row i c : ℕ} {x : Sub} (given : IndexReady l sc nlib m row i c x) where
   abbrev held : Held l sc m nlib
   held = given.ready.sound.held
 
-  pub stays_done : i < c → IndexDone l sc nlib m row i c x (Done (record { row = row; shift = 0 }) m) sc
-  stays_done h = record {
-    wrote = says_also (wrote_nothing l sc m (record { row = row; shift = 0 }) held.room) (index_stays _ (value_of x) x.by _ _ _ _ h (value_of x) (cmp c i) (cmp i c));
-    near = near_done given.there (omega arith);
+  module _ {v : Ptr} (is : x.value ≡ Some v) where
+    value_is : value_of x ≡ some (ptr_of v)
+    value_is = ap value_by is
+
+    there : v.row < nlib + m
+    there =
+        let o = value_lower (subst (ValueGood (store_of l sc m)) value_is given.ready.value) in
+        omega (arith, o, held_length l sc m nlib held)
+
+    pub value_stands : Stands l sc v.row
+    value_stands = used_stands l sc m nlib held v.row there
+
+    pub value_done : i ≡ c → {q : Ptr} → ptr_of q ≡ up (whole l sc) (ptr_of v) c → IndexDone l sc nlib m row i c x (Ok (q, m)) sc
+    value_done h {q} e =
+        let raised : ptr_of q ≡ up (store_of l sc m) (ptr_of v) c = e ∙ up_used l sc m nlib held v.row there v.shift c in
+        let near = up_near (cell_at (store_of l sc m) v.row).bound (ptr_of v) c in
+        record {
+          wrote = says_also (wrote_nothing l sc m q held.room)
+              (ap (λ (p : rules.Ptr). course.wrote (got (store_of l sc m) p)) raised
+              ∙ rw value_is (index_value _ (some (ptr_of v)) x.by _ _ row _ _ h (cmp c i) (cmp i c)));
+          near = near_done
+              (omega (arith, there, ap (λ (p : rules.Ptr). p.row) raised, near.0))
+              (omega (arith, ap (λ (p : rules.Ptr). p.shift) raised, near.1, ap shift_of is));
+        }
+
+  -- an index that is neither below the cutoff nor the value's
+  pub past_value : c ≤ i → ((v : Ptr) → x.value ≡ Some v → i ≡ c → ⊥) → c + count (value_of x) ≤ i
+  past_value h f = go x.value f
+    where
+      go : (o : Option Ptr) → ((v : Ptr) → o ≡ Some v → i ≡ c → ⊥) → c + count (value_by o) ≤ i
+      go None f = omega arith
+      go (Some v) f = let g = f v refl in omega arith
+
+  pub moves_done : c + count (value_of x) ≤ i → {n : ℕ} → n ≡ count (value_of x) → {r : Out} {sc' : List ℕ} →
+      Wrote l sc m r sc' (put_in (most_rows nlib sc) (store_of l sc m) (var (i - n + x.by))) → IndexDone l sc nlib m row i c x r sc'
+  moves_done h e {r} {sc'} w = record {
+    wrote = says_also w
+        (ap (λ (j : ℕ). put_in (most_rows nlib sc) (store_of l sc m) (var (i - j + x.by))) e
+        ∙ index_moves _ (value_of x) _ _ _ _ _ (value_of x) h (cmp c i) (cmp i c));
+    near = near_put l sc nlib m _ _ held _ r sc' w;
   }
-
-  -- an index below c + n and not below c is c, and there is a value
-  one_value : i < c + x.count → c ≤ i → (i ≡ c) × (x.count ≡ 1)
-  one_value h k = let o = given.ready.one in (omega arith, omega arith)
-
-  value_is : x.count ≡ 1 → value_of x ≡ some (ptr_of x.value)
-  value_is e = ap (λ (n : ℕ). value_by n (ptr_of x.value)) e
-
-  value_lower : {v : rules.Ptr} → ValueGood (store_of l sc m) (some v) → v.row < length (store_of l sc m)
-  value_lower (some_good o) = o.lower
-
-  pub value_there : x.count ≡ 1 → x.value.row < nlib + m
-  value_there e =
-      let o = value_lower (subst (ValueGood (store_of l sc m)) (value_is e) given.ready.value) in
-      omega (arith, o, held_length l sc m nlib held)
-
-  pub value_stands : i < c + x.count → c ≤ i → Stands l sc x.value.row
-  value_stands h k = used_stands l sc m nlib held x.value.row (value_there (one_value h k).1)
-
-  pub value_done : i < c + x.count → c ≤ i → (q : Ptr) → ptr_of q ≡ up (whole l sc) (ptr_of x.value) c → IndexDone l sc nlib m row i c x (Done q m) sc
-  value_done h k q e =
-      let o = one_value h k in
-      let there = value_there o.1 in
-      let is : ptr_of q ≡ up (store_of l sc m) (ptr_of x.value) c = e ∙ up_used l sc m nlib held x.value.row there x.value.shift c in
-      let near = up_near (cell_at (store_of l sc m) x.value.row).bound (ptr_of x.value) c in
-      record {
-        wrote = says_also (wrote_nothing l sc m q held.room)
-            (ap (λ (p : rules.Ptr). course.wrote (got (store_of l sc m) p)) is ∙ rw (value_is o.1) (index_value _ (some (ptr_of x.value)) x.by _ _ row _ _ o.0 (cmp c i) (cmp i c)));
-        near = near_done (omega (arith, there, ap (λ (p : rules.Ptr). p.row) is, near.0)) (omega (arith, ap (λ (p : rules.Ptr). p.shift) is, near.1));
-      }
-
-  pub moves_done : c + x.count ≤ i → (r : Out) (sc' : List ℕ) →
-      Wrote l sc m r sc' (put_in (most_rows nlib sc) (store_of l sc m) (var (i - x.count + x.by))) → IndexDone l sc nlib m row i c x r sc'
-  moves_done h r sc' w =
-      let n = count_is x.count (ptr_of x.value) given.ready.one in
-      record {
-        wrote = says_also w
-            (ap (λ (j : ℕ). put_in (most_rows nlib sc) (store_of l sc m) (var (i - j + x.by))) (sym n) ∙ index_moves _ (value_of x) _ _ _ _ _ (value_of x) (omega (arith, n)) (cmp c i) (cmp i c));
-        near = near_put l sc nlib m _ _ held _ r sc' w;
-      }

@@ -12,8 +12,8 @@ use Rattle.course.specs.Charged as course
 use Rattle.substitution.specs.Stores.{Ext, ext_same, ext_then}
 use Rattle.substitution.specs.Existence.{value_good_later}
 use Rattle.rows.specs.declared.Ptr.{Ptr}
-use Rattle.rows.specs.declared.Out.{Out}
-use Rattle.rows.specs.declared.Out.TheVariants.{Done}
+use Rattle.rows.specs.Refusals.{Out}
+use Rattle.std.specs.Prelude.{Ok}
 use Rattle.rows.specs.Words.{decode, store_of, words_at, Held}
 use Rattle.rows.specs.Writes.{Grown, Wrote}
 use Rattle.rows.proofs.Parts.{lt_or_ge, part_same}
@@ -30,7 +30,7 @@ pub held_room : (l sc : List ℕ) (m nlib : ℕ) → Held l sc m nlib → length
 held_room l sc m nlib held = let many = held_length l sc m nlib held in omega arith
 
 module _ (l sc : List ℕ) (nlib m : ℕ) (sound : Sound l sc nlib m) (q : Ptr) (m' : ℕ) (sc' : List ℕ) (out : course.Out)
-    (done : Wrote l sc m (Done q m') sc' out) where
+    (done : Wrote l sc m (Ok (q, m')) sc' out) where
   abbrev whole_library : length l ≡ 9 * nlib
   whole_library = sound.held.whole_library
 
@@ -68,7 +68,6 @@ pub ready_later : {l sc : List ℕ} {nlib m : ℕ} {x : Sub} {sc' : List ℕ} {m
     Ext (store_of l sc m) (store_of l sc' m') → Sound l sc' nlib m' → Ready l sc' nlib m' x
 ready_later ready more sound = record {
   sound = sound;
-  one = ready.one;
   value = value_good_later more ready.value;
   value_shift = ready.value_shift;
   move = ready.move;

@@ -1,5 +1,4 @@
 pub mod Comes
-pub mod ByTable
 pub mod Later
 pub mod Indices
 pub mod Fields

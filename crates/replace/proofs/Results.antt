@@ -1,6 +1,6 @@
 -- What a caller has of an answer: a pointer is what the rules replace to, in rows that are sound for the next call; a refusal is the first
 -- of the rules' due rows that may not stand. And rows that were checked are sound. Assumes nothing but the contract.
-use Prim.Native.Nat.{ℕ, ◌+◌, ◌*◌, ◌<◌}
+use Prim.Native.Nat.{ℕ, ◌+◌, ◌*◌, ◌≤◌, ◌<◌}
 use native.Mathlib.Nat.{le_refl}
 use native.Mathlib.Omega.{arith}
 use mathlib.Core.Path.{◌≡◌, sym, ap, subst, ◌∙◌}
@@ -12,8 +12,9 @@ use Rattle.rules.specs.Accepted.{IsRow, Keep}
 use Rattle.course.specs.Charged as course
 use Rattle.course.specs.Charged.{replace_in}
 use Rattle.rows.specs.declared.Ptr.{Ptr}
-use Rattle.rows.specs.declared.Out.{Out}
-use Rattle.rows.specs.declared.Out.TheVariants.{Done, Refused}
+use Rattle.rows.specs.declared.refusals.Refusal.{Refusal}
+use Rattle.rows.specs.Refusals.{Out, number_of}
+use Rattle.std.specs.Prelude.{Ok, Err}
 use Rattle.rows.specs.Words.{ptr_of, decode, store_of, words_at, Held}
 use Rattle.rows.specs.Writes.{out_of, Wrote}
 use Rattle.rows.proofs.Store.{cell_is, held_length, part_of_words}
@@ -25,12 +26,19 @@ use Rattle.replace.proofs.Later.{held_room, sound_later}
 
 -- AN ANSWER
 
-module _ {l sc : List ℕ} {nlib m : ℕ} {p : Ptr} {c : ℕ} {x : Sub} {r : Out} {sc' : List ℕ} (given : PtrReady l sc nlib m p c x) (done : Replaced l sc nlib m p c x r sc') where
+module _ {l sc : List ℕ} {nlib m : ℕ} {p : Ptr} {c : ℕ} {x : Sub} {r : Out} {sc' : List ℕ} (given : PtrReady l sc nlib m p c x)
+    (done : Replaced l sc nlib m p c x r sc') where
+  abbrev most : ℕ
+  most = most_rows nlib sc
+
   abbrev enough : ℕ
   enough = height_of l sc m p.row
 
   abbrev answer : course.Out
-  answer = replace_in (most_rows nlib sc) (value_of x) x.by enough c (store_of l sc m) (ptr_of p)
+  answer = replace_in most (value_of x) x.by enough c (store_of l sc m) (ptr_of p)
+
+  abbrev room : length (store_of l sc m) ≤ most
+  room = held_room l sc m nlib given.ready.sound.held
 
   wrote : Wrote l sc m r sc' answer
   wrote = done.wrote enough (le_refl _)
@@ -38,20 +46,22 @@ module _ {l sc : List ℕ} {nlib m : ℕ} {p : Ptr} {c : ℕ} {x : Sub} {r : Out
   says : {o : Out} → r ≡ o → out_of o l sc' ≡ answer
   says e = ap (λ (o : Out). out_of o l sc') (sym e) ∙ wrote.says
 
-  pub replaced_came : {q : Ptr} {m' : ℕ} → r ≡ Done q m' → Came given.ready.sound.declarations (value_of x) x.by c (store_of l sc m) (ptr_of p) (got (store_of l sc' m') (ptr_of q))
-  replaced_came e =
-      came _ _ _ _ _ _ (most_rows nlib sc) enough given.ready.sound.pass given.good given.ready.value (held_room l sc m nlib given.ready.sound.held) (le_refl _) (says e)
+  pub replaced_came : {q : Ptr} {m' : ℕ} → r ≡ Ok (q, m') →
+      Came given.ready.sound.declarations (value_of x) x.by c (store_of l sc m) (ptr_of p) (got (store_of l sc' m') (ptr_of q))
+  replaced_came e = came _ _ _ _ _ _ most enough given.ready.sound.pass given.good given.ready.value room (le_refl _) (says e)
 
-  pub replaced_stopped : {n : ℕ} → r ≡ Refused n → Stopped (most_rows nlib sc) (value_of x) x.by c (store_of l sc m) (ptr_of p) n
-  replaced_stopped e =
-      stopped _ _ _ _ _ _ (most_rows nlib sc) enough given.ready.sound.pass given.good given.ready.value (held_room l sc m nlib given.ready.sound.held) (le_refl _) (says e)
+  pub replaced_stopped : {k : Refusal} → r ≡ Err k → Stopped most (value_of x) x.by c (store_of l sc m) (ptr_of p) (number_of k)
+  replaced_stopped e = stopped _ _ _ _ _ _ most enough given.ready.sound.pass given.good given.ready.value room (le_refl _) (says e)
 
-  pub replaced_sound : {q : Ptr} {m' : ℕ} → r ≡ Done q m' → Sound l sc' nlib m'
-  replaced_sound {q} {m'} e = sound_later l sc nlib m given.ready.sound q m' sc' answer (subst (λ (o : Out). Wrote l sc m o sc' answer) e wrote) (replaced_came e).pass
+  pub replaced_sound : {q : Ptr} {m' : ℕ} → r ≡ Ok (q, m') → Sound l sc' nlib m'
+  replaced_sound {q} {m'} e =
+      let done_wrote = subst (λ (o : Out). Wrote l sc m o sc' answer) e wrote in
+      sound_later l sc nlib m given.ready.sound q m' sc' answer done_wrote (replaced_came e).pass
 
 -- ROWS THAT WERE CHECKED
 
-module _ {D : ℕ} {l sc : List ℕ} {nlib m : ℕ} (held : Held l sc m nlib) (keep : Keep 9 (l ++ take (9 * m) sc) IsRow (Passes D) (nlib + m) (store_of l sc m)) where
+module _ {D : ℕ} {l sc : List ℕ} {nlib m : ℕ} (held : Held l sc m nlib)
+    (keep : Keep 9 (l ++ take (9 * m) sc) IsRow (Passes D) (nlib + m) (store_of l sc m)) where
   checked_words : (n : ℕ) → n < nlib + m → IsRow (words_at l sc n) (decode (words_at l sc n))
   checked_words n h =
       let there : n < length (store_of l sc m) = omega (arith, held_length l sc m nlib held) in

@@ -17,16 +17,23 @@ use Rattle.substitution.specs.Passing.{pass_formed}
 use Rattle.safety.specs.NeverLost.{never_flat}
 use Rattle.rows.specs.declared.Ptr.{Ptr}
 use Rattle.rows.specs.declared.Shape.{Shape}
-use Rattle.rows.specs.declared.Out.{Out}
-use Rattle.rows.specs.Words.{ptr_of, kind_of, tags_at, tag_at, shown, row_by, row_of, shape_at, decode, store_of, words_at, Stands, Held}
-use Rattle.rows.specs.Checks.{tag_code, Formed}
-use Rattle.rows.proofs.Store.{used_stands, cell_is, held_length}
+use Rattle.rows.specs.declared.kinds.Tag as kinds
+use Rattle.rows.specs.Refusals.{Out}
+use Rattle.rows.specs.Words.{ptr_of, kind_of, tags_at, tag_at, shown, row_by, row_of, shape_at, store_of, words_at, Held}
+use Rattle.rows.specs.Kinds.{tag_of}
+use Rattle.rows.specs.Checks.{Formed}
+use Rattle.rows.proofs.Store.{row_used, held_length}
 use Rattle.rows.proofs.Formed.{row_formed}
+use Rattle.rows.proofs.NineKinds as nine
 use Rattle.rows.proofs.NineKinds.{fields_are, height_shown, row_height, row_bound}
 use Rattle.replace.specs.declared.Sub.{Sub}
-use Rattle.replace.specs.Replaced.{value_of, tag_of, most_rows, height_of, IndexReady, FieldReady, RowReady, IndexDone, RowDone}
-use Rattle.replace.proofs.ByTable.{tag_is}
+use Rattle.replace.specs.Replaced.{value_of, most_rows, height_of, IndexReady, FieldReady, RowReady, IndexDone, RowDone}
 use Rattle.replace.proofs.Later.{says_also, Went}
+
+-- a row below the mark, as it was read
+pub record Seen (l sc : List ℕ) (nlib m row c : ℕ) (x : Sub) (w : Shape) : Type 0 where
+  pub given : RowReady l sc nlib m row c x
+  pub is : w ≡ shape_at (words_at l sc row)
 
 -- a child of a row of height h
 pub record Child (s : Store) (h : ℕ) (τ : Tag) (p : Ptr) : Type 0 where
@@ -35,7 +42,8 @@ pub record Child (s : Store) (h : ℕ) (τ : Tag) (p : Ptr) : Type 0 where
   pub shift : (τ ≡ plain → ⊥) → p.shift ≤ 65536
 
 -- a child's shift is at most its bound, and is 0 if it is closed
-child_shift : (s : Store) (τ : Tag) (p : Ptr) → FieldOk s (length s) (shown τ (ptr_of p)) τ → field_bound s τ (ptr_of p) ≤ most_bound → (τ ≡ plain → ⊥) → p.shift ≤ 65536
+child_shift : (s : Store) (τ : Tag) (p : Ptr) → FieldOk s (length s) (shown τ (ptr_of p)) τ → field_bound s τ (ptr_of p) ≤ most_bound →
+    (τ ≡ plain → ⊥) → p.shift ≤ 65536
 unfolding field_bound
 child_shift s plain p o b h = absurd (h refl)
 child_shift s term p (term_ok o) b h = go (cell_at s p.row).bound o.still b
@@ -49,23 +57,13 @@ child_shift s body p (body_ok o) b h = go (cell_at s p.row).bound o.still b
     go zero f b = omega (arith, f refl)
     go (suc n) f b = omega arith
 
--- words of a kind other than 0 are a row with children
-pub node_by : (k : ℕ) (a b c : rules.Ptr) → (k ≡ 0 → ⊥) → row_by k a b c ≡ node (kind_of k a b) (shown (tag_at k 0) a) (shown (tag_at k 1) b) (shown (tag_at k 2) c)
-unfolding row_by
-node_by zero a b c f = absurd (f refl)
-node_by (suc k) a b c f = refl
+-- A ROW BELOW THE MARK
 
-module _ (l sc : List ℕ) (nlib m row c : ℕ) (x : Sub) (given : RowReady l sc nlib m row c x) where
-  abbrev s : Store
-  s = store_of l sc m
-
+module _ {l sc : List ℕ} {nlib m row c : ℕ} {x : Sub} (given : RowReady l sc nlib m row c x) where
   abbrev held : Held l sc m nlib
   held = given.ready.sound.held
 
-  pub row_stands : Stands l sc row
-  row_stands = used_stands l sc m nlib held row given.there
-
-  at_row : Good s (rules.ptr row 0)
+  at_row : Good (store_of l sc m) (rules.ptr row 0)
   at_row = record { lower = omega (arith, given.there, held_length l sc m nlib held); still = λ _. refl }
 
   -- a row has some height
@@ -76,119 +74,158 @@ module _ (l sc : List ℕ) (nlib m row c : ℕ) (x : Sub) (given : RowReady l sc
       go zero e = absurd (never_flat (pass_formed given.ready.sound.pass) at_row (let z : height_of l sc m row ≤ 0 = omega (arith, e) in z))
       go (suc h) e = omega arith
 
-  module _ (w : Shape) (is : w ≡ shape_at (words_at l sc row)) where
-    pub row_is : row_at s row ≡ row_of w
-    unfolding decode
-    row_is = ap (λ (y : Cell). y.row) (cell_is l sc nlib held.whole_library m row given.there) ∙ ap row_of (sym is)
+  module _ {ws : List ℕ} (looked_up : ws ≡ words_at l sc row) {w : Shape} (shape : w ≡ shape_at ws) where
+    pub sees : Seen l sc nlib m row c x w
+    sees = record { given = given; is = shape ∙ ap shape_at looked_up }
 
-    pub formed : Formed w
-    formed = subst Formed (sym is) (row_formed (given.ready.sound.words row given.there))
+module _ {l sc : List ℕ} {nlib m row c : ℕ} {x : Sub} {w : Shape} (seen : Seen l sc nlib m row c x w) where
+  abbrev given : RowReady l sc nlib m row c x
+  given = seen.given
 
-    row_fields : FieldsOk s (length s) (row_of w)
-    row_fields = subst (FieldsOk s (length s)) row_is (good_fields (pass_formed given.ready.sound.pass) at_row)
+  abbrev s : Store
+  s = store_of l sc m
 
-    row-cell : cell_at s row ≡ cell s (row_of w)
-    row-cell = (given.ready.sound.pass.each row at_row.lower).exact ∙ ap (cell s) row_is
+  row_is : row_at s row ≡ row_of w
+  row_is = row_used l sc m nlib given.ready.sound.held row given.there w seen.is
 
-    small : (cell s (row_of w)).bound ≤ most_bound
-    small = let b = (given.ready.sound.pass.each row at_row.lower).fits.bound in omega (arith, ap (λ (y : Cell). y.bound) row-cell)
+  pub formed : Formed w
+  formed = subst Formed (sym seen.is) (row_formed (given.ready.sound.words row given.there))
 
-    -- A VARIABLE
+  row_fields : FieldsOk s (length s) (row_of w)
+  row_fields = subst (FieldsOk s (length s)) row_is (good_fields (pass_formed given.ready.sound.pass) (at_row given))
 
-    module _ (kind : w.kind ≡ 0) where
-      row_var : row_of w ≡ var w.first.row
-      unfolding row_by
-      row_var = ap (λ (k : ℕ). row_by k (ptr_of w.first) (ptr_of w.second) (ptr_of w.third)) kind
+  row-cell : cell_at s row ≡ cell s (row_of w)
+  row-cell = (given.ready.sound.pass.each row (at_row given).lower).exact ∙ ap (cell s) row_is
 
-      var_small : (cell s (var w.first.row)).bound ≤ most_bound
-      var_small = subst (λ (r : Row). (cell s r).bound ≤ most_bound) row_var small
+  small : (cell s (row_of w)).bound ≤ most_bound
+  small = let b = (given.ready.sound.pass.each row (at_row given).lower).fits.bound in omega (arith, ap (λ (y : Cell). y.bound) row-cell)
 
-      pub index_ready : IndexReady l sc nlib m row w.first.row c x
-      unfolding cell
-      index_ready = record { ready = given.ready; there = given.there; index = omega (arith, var_small); cutoff = let n = given.near in omega arith }
+  -- A VARIABLE
 
-      pub index_row : (r : Out) (sc' : List ℕ) → IndexDone l sc nlib m row w.first.row c x r sc' → RowDone l sc nlib m row c x r sc'
-      unfolding row_in
-      index_row r sc' d = record {
-        wrote = λ f h. says_also d.wrote (ap (λ (y : Row). row_in (most_rows nlib sc) (value_of x) x.by (replace_in (most_rows nlib sc) (value_of x) x.by f) c s row y) (sym (row_is ∙ row_var)));
-        near = d.near;
-      }
+  module _ (kind : w.kind ≡ 0) where
+    row_var : row_of w ≡ var w.first.row
+    unfolding row_by
+    row_var = ap (λ (k : ℕ). row_by k (ptr_of w.first) (ptr_of w.second) (ptr_of w.third)) kind
 
-    -- CHILDREN
+    var_small : (cell s (var w.first.row)).bound ≤ most_bound
+    var_small = subst (λ (r : Row). (cell s r).bound ≤ most_bound) row_var small
 
-    module _ (kind : w.kind ≡ 0 → ⊥) where
-      -- the row by its table's marks
-      abbrev pub the_kind : Kind
-      the_kind = kind_of w.kind (ptr_of w.first) (ptr_of w.second)
+    pub index_ready : IndexReady l sc nlib m row w.first.row c x
+    unfolding cell
+    index_ready = record {
+      ready = given.ready;
+      there = given.there;
+      index = omega (arith, var_small);
+      cutoff = let n = given.near in omega arith;
+    }
 
-      pub marks : fields the_kind ≡ tags_at w.kind
-      marks = fields_are w.kind (ptr_of w.first) (ptr_of w.second) formed.kind
+    abbrev most : ℕ
+    most = most_rows nlib sc
 
-      pub row_node : row_of w ≡ node the_kind (shown (tag_at w.kind 0) (ptr_of w.first)) (shown (tag_at w.kind 1) (ptr_of w.second)) (shown (tag_at w.kind 2) (ptr_of w.third))
-      row_node = node_by w.kind (ptr_of w.first) (ptr_of w.second) (ptr_of w.third) kind
+    pub index_row : {r : Out} {sc' : List ℕ} → IndexDone l sc nlib m row w.first.row c x r sc' → RowDone l sc nlib m row c x r sc'
+    unfolding row_in
+    index_row d = record {
+      wrote = λ f h. says_also d.wrote (ap (row_in most (value_of x) x.by (replace_in most (value_of x) x.by f) c s row) (sym (row_is ∙ row_var)));
+      near = d.near;
+    }
 
-      node_fields : FieldsOk s (length s) (node the_kind (shown (tag_at w.kind 0) (ptr_of w.first)) (shown (tag_at w.kind 1) (ptr_of w.second)) (shown (tag_at w.kind 2) (ptr_of w.third)))
-      node_fields = subst (FieldsOk s (length s)) row_node row_fields
+  -- CHILDREN
 
-      -- its bound and height are its fields' largest
-      record Sizes : Type 0 where
-        height : height_of l sc m row ≡ suc (max (max (field_height s (tag_at w.kind 0) (ptr_of w.first)) (field_height s (tag_at w.kind 1) (ptr_of w.second))) (field_height s (tag_at w.kind 2) (ptr_of w.third)))
-        bound : max (max (field_bound s (tag_at w.kind 0) (ptr_of w.first)) (field_bound s (tag_at w.kind 1) (ptr_of w.second))) (field_bound s (tag_at w.kind 2) (ptr_of w.third)) ≤ most_bound
+  module _ (kind : w.kind ≡ 0 → ⊥) where
+    abbrev high : ℕ
+    high = height_of l sc m row
 
-      sizes : Sizes
-      sizes = go w.kind refl kind formed.kind
-        where
-          go : (k : ℕ) → w.kind ≡ k → (k ≡ 0 → ⊥) → k ≤ 8 → Sizes
-          go zero e f h = absurd (f refl)
-          go (suc k) e f h = record {
-            height = ap (λ (y : Cell). y.height) row-cell ∙ rw e (row_height s k (ptr_of w.first) (ptr_of w.second) (ptr_of w.third) h);
-            bound = rw e (rw (← row_bound s k (ptr_of w.first) (ptr_of w.second) (ptr_of w.third) h, ← e) small);
-          }
+    -- what the table says of field j
+    abbrev mark : ℕ → Tag
+    mark j = tag_at w.kind j
 
-      field_at : (f : Tags → Tag) (p : rules.Ptr) → FieldOk s (length s) p (f (fields the_kind)) → FieldOk s (length s) p (f (tags_at w.kind))
-      field_at f p o = subst (λ (t : Tags). FieldOk s (length s) p (f t)) marks o
+    -- the row by its table's marks
+    abbrev pub the_kind : Kind
+    the_kind = kind_of w.kind (ptr_of w.first) (ptr_of w.second)
 
-      pub first_child : Child s (height_of l sc m row) (tag_at w.kind 0) w.first
-      first_child =
-          let o = field_at (λ t. t.first) _ (first_ok node_fields) in
-          record { ok = o; lower = omega (arith, sizes.height); shift = child_shift s _ _ o (let b = sizes.bound in omega arith) }
+    pub marks : fields the_kind ≡ tags_at w.kind
+    marks = fields_are w.kind (ptr_of w.first) (ptr_of w.second) formed.kind
 
-      pub second_child : Child s (height_of l sc m row) (tag_at w.kind 1) w.second
-      second_child =
-          let o = field_at (λ t. t.second) _ (second_ok node_fields) in
-          record { ok = o; lower = omega (arith, sizes.height); shift = child_shift s _ _ o (let b = sizes.bound in omega arith) }
+    abbrev by_marks : Row
+    by_marks = node the_kind (shown (mark 0) (ptr_of w.first)) (shown (mark 1) (ptr_of w.second)) (shown (mark 2) (ptr_of w.third))
 
-      pub third_child : Child s (height_of l sc m row) (tag_at w.kind 2) w.third
-      third_child =
-          let o = field_at (λ t. t.third) _ (third_ok node_fields) in
-          record { ok = o; lower = omega (arith, sizes.height); shift = child_shift s _ _ o (let b = sizes.bound in omega arith) }
+    pub row_node : row_at s row ≡ by_marks
+    row_node = row_is ∙ nine.row_node w.kind (ptr_of w.first) (ptr_of w.second) (ptr_of w.third) kind
 
-  -- a child is ready after others, with the height that it had
-  module _ (sc' : List ℕ) (m' : ℕ) (went : Went l sc nlib m x sc' m') (τ : Tag) (p : Ptr) (child : Child s (height_of l sc m row) τ p) where
-    pub child_ok : FieldOk (store_of l sc' m') (length (store_of l sc' m')) (shown τ (ptr_of p)) τ
-    child_ok = ext_good_field went.more child.ok
+    node_fields : FieldsOk s (length s) by_marks
+    node_fields = subst (FieldsOk s (length s)) row_node (good_fields (pass_formed given.ready.sound.pass) (at_row given))
 
-    pub same_height : field_height (store_of l sc' m') τ (ptr_of p) ≡ field_height s τ (ptr_of p)
-    same_height = sym (height_shown (store_of l sc' m') τ (ptr_of p)) ∙ ext_field_height went.more (le_refl _) child.ok ∙ height_shown s τ (ptr_of p)
+    -- its bound and height are its fields' largest
+    abbrev largest : (Tag → rules.Ptr → ℕ) → ℕ
+    largest f = max (max (f (mark 0) (ptr_of w.first)) (f (mark 1) (ptr_of w.second))) (f (mark 2) (ptr_of w.third))
 
-    child_ready : (tag : ℕ) → tag_of tag ≡ τ → FieldReady l sc' nlib m' tag p c x
-    child_ready tag e =
-        let height = ap (λ (t : Tag). field_height (store_of l sc' m') t (ptr_of p)) e ∙ same_height in
-        record {
-          ready = went.ready;
-          field = subst (λ (t : Tag). FieldOk (store_of l sc' m') (length (store_of l sc' m')) (shown t (ptr_of p)) t) (sym e) child_ok;
-          near = let n = given.near in let h = child.lower in omega (arith, height);
-          shift = λ f. child.shift (λ z. f (e ∙ z));
+    record Sizes : Type 0 where
+      height : high ≡ suc (largest (field_height s))
+      bound : largest (field_bound s) ≤ most_bound
+
+    sizes : Sizes
+    sizes = go w.kind refl kind formed.kind
+      where
+        go : (k : ℕ) → w.kind ≡ k → (k ≡ 0 → ⊥) → k ≤ 8 → Sizes
+        go zero e f h = absurd (f refl)
+        go (suc k) e f h = record {
+          height = ap (λ (y : Cell). y.height) row-cell ∙ rw e (row_height s k (ptr_of w.first) (ptr_of w.second) (ptr_of w.third) h);
+          bound = rw e (rw (← row_bound s k (ptr_of w.first) (ptr_of w.second) (ptr_of w.third) h, ← e) small);
         }
 
-    -- the measure falls
-    child_falls : (tag : ℕ) → tag_of tag ≡ τ → 3 * field_height (store_of l sc' m') (tag_of tag) (ptr_of p) + 2 < 3 * height_of l sc m row
-    child_falls tag e =
-        let height = ap (λ (t : Tag). field_height (store_of l sc' m') t (ptr_of p)) e ∙ same_height in
-        let h = child.lower in
-        omega (arith, height)
+    -- a field of the row by its kind is one by its number
+    child : (f : Tags → Tag) (p : Ptr) → FieldOk s (length s) (shown (f (tags_at w.kind)) (ptr_of p)) (f (fields the_kind)) →
+        suc (field_height s (f (tags_at w.kind)) (ptr_of p)) ≤ high → field_bound s (f (tags_at w.kind)) (ptr_of p) ≤ most_bound →
+        Child s high (f (tags_at w.kind)) p
+    child f p o lower bound =
+        let ok = subst (λ (t : Tags). FieldOk s (length s) (shown (f (tags_at w.kind)) (ptr_of p)) (f t)) marks o in
+        record { ok = ok; lower = lower; shift = child_shift s _ _ ok bound }
 
-    -- what the cycle asks for a child: that it is lower, and that it is ready
-    pub child_asked : (rank tag : ℕ) → 3 * height_of l sc m row ≡ rank → tag ≡ tag_code τ →
-        (3 * field_height (store_of l sc' m') (tag_of tag) (ptr_of p) + 2 < rank) × FieldReady l sc' nlib m' tag p c x
-    child_asked rank tag e is_tag = (omega (arith, e, child_falls tag (tag_is τ tag is_tag)), child_ready tag (tag_is τ tag is_tag))
+    pub first_child : Child s high (mark 0) w.first
+    first_child = child (λ t. t.first) w.first (first_ok node_fields) (omega (arith, sizes.height)) (let b = sizes.bound in omega arith)
+
+    pub second_child : Child s high (mark 1) w.second
+    second_child = child (λ t. t.second) w.second (second_ok node_fields) (omega (arith, sizes.height)) (let b = sizes.bound in omega arith)
+
+    pub third_child : Child s high (mark 2) w.third
+    third_child = child (λ t. t.third) w.third (third_ok node_fields) (omega (arith, sizes.height)) (let b = sizes.bound in omega arith)
+
+pub kind_known : {l sc : List ℕ} {nlib m row c : ℕ} {x : Sub} → RowReady l sc nlib m row c x → {ws : List ℕ} → ws ≡ words_at l sc row →
+    {w : Shape} → w ≡ shape_at ws → w.kind ≤ 8
+kind_known given looked_up shape = (formed (sees given looked_up shape)).kind
+
+-- A CHILD AFTER OTHERS
+
+-- field p of mark τ is next, at scratch sc' with m' rows used
+pub record Next (l sc : List ℕ) (nlib m row : ℕ) (x : Sub) (τ : Tag) (p : Ptr) (sc' : List ℕ) (m' : ℕ) : Type 0 where
+  pub went : Went l sc nlib m x sc' m'
+  pub child : Child (store_of l sc m) (height_of l sc m row) τ p
+
+-- it is ready, with the height that it had
+module _ {l sc : List ℕ} {nlib m row : ℕ} {x : Sub} {τ : Tag} {p : Ptr} {sc' : List ℕ} {m' : ℕ} (next : Next l sc nlib m row x τ p sc' m') where
+  abbrev now : Store
+  now = store_of l sc' m'
+
+  pub child_ok : FieldOk now (length now) (shown τ (ptr_of p)) τ
+  child_ok = ext_good_field next.went.more next.child.ok
+
+  same_height : field_height now τ (ptr_of p) ≡ field_height (store_of l sc m) τ (ptr_of p)
+  same_height =
+      sym (height_shown now τ (ptr_of p)) ∙ ext_field_height next.went.more (le_refl _) next.child.ok ∙ height_shown (store_of l sc m) τ (ptr_of p)
+
+  pub child_lower : suc (field_height now τ (ptr_of p)) ≤ height_of l sc m row
+  child_lower = let h = next.child.lower in omega (arith, same_height)
+
+  -- what the cycle asks for it: that it is lower, and that it is ready
+  pub field_asked : {c : ℕ} → RowReady l sc nlib m row c x → {rank : ℕ} → 3 * height_of l sc m row ≡ rank → {tag : kinds.Tag} → tag_of tag ≡ τ →
+      (3 * field_height now (tag_of tag) (ptr_of p) + 2 < rank) × FieldReady l sc' nlib m' tag p c x
+  field_asked given e {tag} is_tag =
+      let height = ap (λ (t : Tag). field_height now t (ptr_of p)) is_tag in (
+        omega (arith, e, height, child_lower),
+        record {
+          ready = next.went.ready;
+          field = subst (λ (t : Tag). FieldOk now (length now) (shown t (ptr_of p)) t) (sym is_tag) child_ok;
+          near = let n = given.near in omega (arith, height, child_lower);
+          shift = λ f. next.child.shift (λ z. f (is_tag ∙ z));
+        },
+      )

@@ -2,242 +2,280 @@
 -- Assumes nothing but what the code is given.
 use Prim.Native.Nat.{ℕ, suc, ◌+◌, ◌/◌, ◌≤◌, ◌<◌}
 use native.Mathlib.Omega.{arith}
-use mathlib.Core.Path.{◌≡◌, refl, sym, ap, subst, ◌∙◌}
+use mathlib.Core.Path.{◌≡◌, sym, ap, subst, ◌∙◌}
 use mathlib.Core.List.{List}
-use lib.ListN.{length}
 use Rattle.rules.specs.Kinds.{Kind, Tag, plain, term, body, Tags, fields}
 use Rattle.rules.specs.Rows as rules
-use Rattle.rules.specs.Rows.{blank, Row, node, Store, row_at, Got, got}
-use Rattle.rules.specs.RowCheck.{FieldOk, term_ok, body_ok}
+use Rattle.rules.specs.Rows.{blank, Row, node, Store, row_at, field_height, Got, got}
 use Rattle.course.specs.Charged as course
 use Rattle.course.specs.Charged.{and_on, put_in, field_in, row_in, replace_in}
-use Rattle.substitution.specs.Stores.{Ext, ext_same, ext_then, ext_good_field}
+use Rattle.substitution.specs.Stores.{ext_length}
+use Rattle.std.specs.Prelude.{Ok, Err}
 use Rattle.rows.specs.declared.Ptr.{Ptr}
 use Rattle.rows.specs.declared.Shape.{Shape}
-use Rattle.rows.specs.declared.Out.{Out}
-use Rattle.rows.specs.declared.Out.TheVariants.{Done, Refused}
-use Rattle.rows.specs.Words.{ptr_of, tags_at, tag_at, shown, row_of, shape_at, store_of, words_at}
-use Rattle.rows.specs.Checks.{tag_code, Formed}
-use Rattle.rows.specs.Writes.{out_of, Wrote, Due}
+use Rattle.rows.specs.declared.kinds.Tag as kinds
+use Rattle.rows.specs.declared.refusals.Refusal.{Refusal}
+use Rattle.rows.specs.Refusals.{Out}
+use Rattle.rows.specs.Words.{ptr_of, tags_at, tag_at, shown, row_of, shape_at, store_of, words_at, Held}
+use Rattle.rows.specs.Kinds.{tag_of}
+use Rattle.rows.specs.Writes.{Wrote, Due}
 use Rattle.rows.proofs.Store.{held_length}
 use Rattle.rows.proofs.InTurn.{wrote_then}
+use Rattle.rows.proofs.NineKinds as nine
+use Rattle.rows.proofs.NineKinds.{kind_kept}
+use Rattle.rows.proofs.DueRows.{due_again}
 use Rattle.replace.specs.declared.Sub.{Sub}
-use Rattle.replace.specs.Replaced.{value_of, most_rows, height_of, FieldDone, RowReady, RowDone, Near}
-use Rattle.replace.proofs.ByTable.{tag_is, same_kind, same_tidy}
+use Rattle.replace.specs.Replaced.{value_of, shift_of, most_rows, height_of, FieldDone, RowReady, RowDone, Near}
 use Rattle.replace.proofs.Later.{says_also, Went, went_nowhere, went_then}
 use Rattle.replace.proofs.Indices.{near_refused, near_put}
-use Rattle.replace.proofs.Fields.{FieldKept, FieldSays, field_says, kept_field, went_field}
-use Rattle.replace.proofs.RowParts.{Child, row_is, formed, the_kind, marks, row_node, first_child, second_child, third_child, child_ok}
-use Rattle.replace.proofs.RowParts.{same_height, node_by}
-
--- a child stands in the store
-stands_in : {s : Store} (τ : Tag) (p : rules.Ptr) → FieldOk s (length s) (shown τ p) τ → (τ ≡ plain → ⊥) → p.row < length s
-stands_in plain p o f = absurd (f refl)
-stands_in term p (term_ok o) f = o.lower
-stands_in body p (body_ok o) f = o.lower
+use Rattle.replace.proofs.Fields.{FieldKept, FieldSays, field_says, kept_field, went_field, child_good}
+use Rattle.replace.proofs.RowParts.{Seen, Next, sees, formed, the_kind, marks, row_node, first_child, second_child, third_child, child_ok, child_lower}
 
 -- ONE FIELD, THEN THE REST
 
-module _ (most : ℕ) (x : Sub) (rec : ℕ → Store → rules.Ptr → course.Out) (c : ℕ) (s : Store) where
-  abbrev on_field : Tag → rules.Ptr → course.Out
-  on_field τ p = field_in most (value_of x) x.by rec τ c s p
+-- what the course answers for a field, where so many rows may stand, with fuel f
+abbrev in_field : ℕ → Sub → ℕ → ℕ → Store → Tag → rules.Ptr → course.Out
+in_field most x f c s τ p = field_in most (value_of x) x.by (replace_in most (value_of x) x.by f) τ c s p
 
-  field_refused : (τ τ' : Tag) (p : rules.Ptr) (next : Got → course.Out) (k : ℕ) → τ' ≡ τ → course.refused k ≡ on_field τ p →
-      course.refused k ≡ and_on (on_field τ' (shown τ p)) next
-  field_refused plain τ' p next k t e = absurd (let z : ◌≡◌ {A = ℕ} 0 1 = cc in omega arith)
-  field_refused term τ' p next k t e = rw (t, ← e)
-  field_refused body τ' p next k t e = rw (t, ← e)
+module _ (most : ℕ) (x : Sub) (f c : ℕ) (s : Store) where
+  field_refused : (τ τ' : Tag) (p : rules.Ptr) (rest : Got → course.Out) (k : ℕ) → τ' ≡ τ → course.refused k ≡ in_field most x f c s τ p →
+      course.refused k ≡ and_on (in_field most x f c s τ' (shown τ p)) rest
+  field_refused plain τ' p rest k t e = absurd cc
+  field_refused term τ' p rest k t e = rw (t, ← e)
+  field_refused body τ' p rest k t e = rw (t, ← e)
 
-  field_then : (τ τ' : Tag) (p q : rules.Ptr) (s' : Store) (next : Got → course.Out) → τ' ≡ τ → course.wrote (got s' q) ≡ on_field τ p →
-      next (got s' (shown τ q)) ≡ and_on (on_field τ' (shown τ p)) next
-  field_then plain τ' p q s' next t e = let z : got s' q ≡ got s p = cc in rw t (ap (λ (g : Got). next (got g.store blank)) z)
-  field_then term τ' p q s' next t e = rw (t, ← e)
-  field_then body τ' p q s' next t e = rw (t, ← e)
+  field_then : (τ τ' : Tag) (p q : rules.Ptr) (s' : Store) (rest : Got → course.Out) → τ' ≡ τ → course.wrote (got s' q) ≡ in_field most x f c s τ p →
+      rest (got s' (shown τ q)) ≡ and_on (in_field most x f c s τ' (shown τ p)) rest
+  field_then plain τ' p q s' rest t e = let z : got s' q ≡ got s p = cc in rw t (ap (λ (g : Got). rest (got g.store blank)) z)
+  field_then term τ' p q s' rest t e = rw (t, ← e)
+  field_then body τ' p q s' rest t e = rw (t, ← e)
 
--- THE FIELDS OF A ROW
+-- A FIELD IN TURN
 
--- a row with children, as it was read
+-- the rules' pointer as the code's
+abbrev code_ptr : rules.Ptr → Ptr
+code_ptr p = record { row = p.row; shift = p.shift }
+
+-- at scratch sc₁ with n₁ rows used, field p of mark τ became q, at scratch sc₂ with n₂ rows used
+pub record Turn (l sc : List ℕ) (nlib m row c : ℕ) (x : Sub) (τ : Tag) (p : Ptr) (sc₁ : List ℕ) (n₁ : ℕ) (q : Ptr) (sc₂ : List ℕ) (n₂ : ℕ) : Type 0 where
+  pub next : Next l sc nlib m row x τ p sc₁ n₁
+  pub says : FieldSays l sc₁ n₁ (most_rows nlib sc) τ p c x (Ok (q, n₂)) sc₂
+
+module _ {l sc : List ℕ} {nlib m row c : ℕ} {x : Sub} {τ : Tag} {p : Ptr} {sc₁ : List ℕ} {n₁ : ℕ} where
+  module _ (next : Next l sc nlib m row x τ p sc₁ n₁) {tag : kinds.Tag} (is_tag : tag_of tag ≡ τ) where
+    says_next : {r : Out} {sc₂ : List ℕ} → FieldDone l sc₁ nlib n₁ tag p c x r sc₂ → FieldSays l sc₁ n₁ (most_rows nlib sc) τ p c x r sc₂
+    says_next done = field_says is_tag (ap (λ (k : ℕ). nlib + k / 9) next.went.same_length) done
+
+    turned : {q : Ptr} {sc₂ : List ℕ} {n₂ : ℕ} → FieldDone l sc₁ nlib n₁ tag p c x (Ok (q, n₂)) sc₂ → Turn l sc nlib m row c x τ p sc₁ n₁ q sc₂ n₂
+    turned done = record { next = next; says = says_next done }
+
+  module _ {q : Ptr} {sc₂ : List ℕ} {n₂ : ℕ} (turn : Turn l sc nlib m row c x τ p sc₁ n₁ q sc₂ n₂) where
+    here : FieldSays l sc₁ n₁ (most_rows nlib sc₁) τ p c x (Ok (q, n₂)) sc₂
+    here =
+        let same : most_rows nlib sc ≡ most_rows nlib sc₁ = ap (λ (k : ℕ). nlib + k / 9) (sym turn.next.went.same_length) in
+        subst (λ (k : ℕ). FieldSays l sc₁ n₁ k τ p c x (Ok (q, n₂)) sc₂) same turn.says
+
+    turn_kept : FieldKept turn.next.went.ready.sound.declarations τ (store_of l sc₁ n₁) (ptr_of p) (got (store_of l sc₂ n₂) (ptr_of q))
+    turn_kept = kept_field turn.next.went.ready (child_ok turn.next) here
+
+    turn_after : Went l sc nlib m x sc₂ n₂
+    turn_after = went_then turn.next.went (went_field turn.next.went.ready (child_ok turn.next) here)
+
+    -- rows are not fewer, a plain word is what it was, and a child stands
+    turn_upward : n₁ ≤ n₂
+    turn_upward =
+        let before = held_length l sc₁ n₁ nlib turn.next.went.ready.sound.held in
+        let after = held_length l sc₂ n₂ nlib turn_after.ready.sound.held in
+        omega (arith, ext_length turn_kept.more, before, after)
+
+    turn_same : τ ≡ plain → q ≡ p
+    turn_same e = ap code_ptr (turn_kept.same e)
+
+    turn_lower : (τ ≡ plain → ⊥) → q.row < nlib + n₂
+    turn_lower f = omega (arith, (child_good turn_kept.field f).lower, held_length l sc₂ n₂ nlib turn_after.ready.sound.held)
+
+module _ {l sc : List ℕ} {nlib m row c : ℕ} {x : Sub} {τ : Tag} {p : Ptr} {sc₁ : List ℕ} {n₁ : ℕ} (f : ℕ) (fuel : height_of l sc m row ≤ suc f) where
+  field_wrote : Next l sc nlib m row x τ p sc₁ n₁ → {r : Out} {sc₂ : List ℕ} → FieldSays l sc₁ n₁ (most_rows nlib sc) τ p c x r sc₂ →
+      Wrote l sc₁ n₁ r sc₂ (in_field (most_rows nlib sc) x f c (store_of l sc₁ n₁) τ (ptr_of p))
+  field_wrote next says = says.wrote f (omega (arith, fuel, child_lower next))
+
+  -- where the field is refused the row is, whatever comes after it
+  stops : Next l sc nlib m row x τ p sc₁ n₁ → {k : Refusal} {sc₂ : List ℕ} → FieldSays l sc₁ n₁ (most_rows nlib sc) τ p c x (Err k) sc₂ →
+      {τ' : Tag} → τ' ≡ τ → (rest : Got → course.Out) →
+      Wrote l sc₁ n₁ (Err k) sc₂ (and_on (in_field (most_rows nlib sc) x f c (store_of l sc₁ n₁) τ' (shown τ (ptr_of p))) rest)
+  stops next says {τ'} t rest =
+      let w = field_wrote next says in
+      says_also w (sym w.says ∙ field_refused (most_rows nlib sc) x f c (store_of l sc₁ n₁) τ τ' (ptr_of p) rest _ t w.says)
+
+  -- what is answered for the rest is answered for the field and the rest
+  goes_on : {q : Ptr} {sc₂ : List ℕ} {n₂ : ℕ} → Turn l sc nlib m row c x τ p sc₁ n₁ q sc₂ n₂ → {τ' : Tag} → τ' ≡ τ →
+      {r : Out} {sc₃ : List ℕ} (rest : Got → course.Out) → Wrote l sc₂ n₂ r sc₃ (rest (got (store_of l sc₂ n₂) (shown τ (ptr_of q)))) →
+      Wrote l sc₁ n₁ r sc₃ (and_on (in_field (most_rows nlib sc) x f c (store_of l sc₁ n₁) τ' (shown τ (ptr_of p))) rest)
+  goes_on {q} {sc₂} {n₂} turn {τ'} t {r} {sc₃} rest v =
+      let w = field_wrote turn.next turn.says in
+      wrote_then l sc₁ n₁ q n₂ sc₂ _ w r sc₃ _
+      (says_also v (field_then (most_rows nlib sc) x f c (store_of l sc₁ n₁) τ τ' (ptr_of p) (ptr_of q) (store_of l sc₂ n₂) rest t w.says))
+
+-- THE ROW, FIELD BY FIELD
+
+-- it was read, and has children
 pub record Opened (l sc : List ℕ) (nlib m row c : ℕ) (x : Sub) (w : Shape) : Type 0 where
-  pub given : RowReady l sc nlib m row c x
-  pub is : w ≡ shape_at (words_at l sc row)
+  pub seen : Seen l sc nlib m row c x w
   pub kind : w.kind ≡ 0 → ⊥
 
-module _ {l sc : List ℕ} {nlib m row c : ℕ} {x : Sub} {w : Shape} (opened : Opened l sc nlib m row c x w) where
-  abbrev given : RowReady l sc nlib m row c x
-  given = opened.given
+pub opens : {l sc : List ℕ} {nlib m row c : ℕ} {x : Sub} → RowReady l sc nlib m row c x → {ws : List ℕ} → ws ≡ words_at l sc row →
+    {w : Shape} → w ≡ shape_at ws → (w.kind ≡ 0 → ⊥) → Opened l sc nlib m row c x w
+opens given looked_up shape kind = record { seen = sees given looked_up shape; kind = kind }
 
-  abbrev is : w ≡ shape_at (words_at l sc row)
-  is = opened.is
+-- its first field was done
+pub record One (l sc : List ℕ) (nlib m row c : ℕ) (x : Sub) (w : Shape) (q₁ : Ptr) (sc₁ : List ℕ) (n₁ : ℕ) : Type 0 where
+  pub opened : Opened l sc nlib m row c x w
+  pub turn : Turn l sc nlib m row c x (tag_at w.kind 0) w.first sc m q₁ sc₁ n₁
 
-  abbrev kind : w.kind ≡ 0 → ⊥
-  kind = opened.kind
+-- and its second
+pub record Two (l sc : List ℕ) (nlib m row c : ℕ) (x : Sub) (w : Shape) (q₁ q₂ : Ptr) (sc₂ : List ℕ) (n₂ : ℕ) : Type 0 where
+  pub sc₁ : List ℕ
+  pub n₁ : ℕ
+  pub one : One l sc nlib m row c x w q₁ sc₁ n₁
+  pub turn : Turn l sc nlib m row c x (tag_at w.kind 1) w.second sc₁ n₁ q₂ sc₂ n₂
 
-  abbrev most : ℕ
-  most = most_rows nlib sc
+-- and its third
+pub record Three (l sc : List ℕ) (nlib m row c : ℕ) (x : Sub) (w : Shape) (q₁ q₂ q₃ : Ptr) (sc₃ : List ℕ) (n₃ : ℕ) : Type 0 where
+  pub sc₂ : List ℕ
+  pub n₂ : ℕ
+  pub two : Two l sc nlib m row c x w q₁ q₂ sc₂ n₂
+  pub turn : Turn l sc nlib m row c x (tag_at w.kind 2) w.third sc₂ n₂ q₃ sc₃ n₃
 
-  abbrev rec : ℕ → ℕ → Store → rules.Ptr → course.Out
-  rec f = replace_in most (value_of x) x.by f
+module _ {l sc : List ℕ} {nlib m row c : ℕ} {x : Sub} {w : Shape} where
+  module _ (o : Opened l sc nlib m row c x w) where
+    abbrev κ : Kind
+    κ = the_kind o.seen o.kind
 
-  abbrev mark : ℕ → Tag
-  mark j = tag_at w.kind j
+    tag_at_lem : (g : Tags → Tag) → g (fields κ) ≡ g (tags_at w.kind)
+    tag_at_lem g = ap g (marks o.seen o.kind)
 
-  -- field p of mark τ was answered with r, from the first n scratch rows on
-  abbrev pub Answered : Tag → Ptr → List ℕ → ℕ → Out → List ℕ → Type 0
-  Answered τ p sc₁ n r sc₂ = FieldSays l sc₁ n most τ p c x r sc₂
+    -- the course's answer for the row, by its three fields: from the third on, from the second, from the first
+    abbrev own : (g : Tags → Tag) → ℕ → Store → Ptr → course.Out
+    own g f s p = in_field (most_rows nlib sc) x f c s (g (fields κ)) (shown (g (tags_at w.kind)) (ptr_of p))
 
-  -- the course's answer for the row, by its three fields
-  abbrev by_fields : ℕ → course.Out
-  by_fields f =
-      let κ = the_kind l sc nlib m row c x given w is kind in
-      and_on (on_field most x (rec f) c (store_of l sc m) (fields κ).first (shown (mark 0) (ptr_of w.first))) λ g₁.
-      and_on (on_field most x (rec f) c g₁.store (fields κ).second (shown (mark 1) (ptr_of w.second))) λ g₂.
-      and_on (on_field most x (rec f) c g₂.store (fields κ).third (shown (mark 2) (ptr_of w.third))) λ g₃.
-      put_in most g₃.store (node κ g₁.at g₂.at g₃.at)
+    abbrev from_third : ℕ → rules.Ptr → rules.Ptr → Store → course.Out
+    from_third f a b s = and_on (own (λ t. t.third) f s w.third) λ g. put_in (most_rows nlib sc) g.store (node κ a b g.at)
 
-  row_by_fields : (f : ℕ) → by_fields f ≡ row_in most (value_of x) x.by (rec f) c (store_of l sc m) row (row_at (store_of l sc m) row)
-  unfolding row_in
-  row_by_fields f =
-      ap (λ (y : Row). row_in most (value_of x) x.by (rec f) c (store_of l sc m) row y)
-      (sym (row_is l sc nlib m row c x given w is ∙ row_node l sc nlib m row c x given w is kind))
+    abbrev from_second : ℕ → rules.Ptr → Store → course.Out
+    from_second f a s = and_on (own (λ t. t.second) f s w.second) λ g. from_third f a g.at g.store
 
-  tag_at_lem : (f : Tags → Tag) → f (fields (the_kind l sc nlib m row c x given w is kind)) ≡ f (tags_at w.kind)
-  tag_at_lem f = ap f (marks l sc nlib m row c x given w is kind)
+    abbrev from_first : ℕ → course.Out
+    from_first f = and_on (own (λ t. t.first) f (store_of l sc m) w.first) λ g. from_second f g.at g.store
 
-  -- A field was done: at scratch sc₁ with n₁ rows used, field p of mark τ became q, at scratch sc₂ with n₂ rows used.
-  pub record Turn (τ : Tag) (p : Ptr) (sc₁ : List ℕ) (n₁ : ℕ) (q : Ptr) (sc₂ : List ℕ) (n₂ : ℕ) : Type 0 where
-    pub start : Went l sc nlib m x sc₁ n₁
-    pub child : Child (store_of l sc m) (height_of l sc m row) τ p
-    pub answer : Answered τ p sc₁ n₁ (Done q n₂) sc₂
-
-  pub begun : Went l sc nlib m x sc m
-  begun = went_nowhere l sc nlib m x given.ready
-
-  pub answered : {τ : Tag} {p : Ptr} {sc₁ : List ℕ} {n₁ tag : ℕ} {r : Out} {sc₂ : List ℕ} → Went l sc nlib m x sc₁ n₁ → tag ≡ tag_code τ →
-      FieldDone l sc₁ nlib n₁ tag p c x r sc₂ → Answered τ p sc₁ n₁ r sc₂
-  answered {τ} {tag = tag} start e done = field_says τ most (tag_is τ tag e) (ap (λ (k : ℕ). nlib + k / 9) start.same_length) done
-
-  pub turned : {τ : Tag} {p : Ptr} {sc₁ : List ℕ} {n₁ tag : ℕ} {r : Out} {q : Ptr} {sc₂ : List ℕ} {n₂ : ℕ} → Went l sc nlib m x sc₁ n₁ →
-      Child (store_of l sc m) (height_of l sc m row) τ p → tag ≡ tag_code τ → FieldDone l sc₁ nlib n₁ tag p c x r sc₂ → r ≡ Done q n₂ → Turn τ p sc₁ n₁ q sc₂ n₂
-  turned {τ} {p} {sc₁} {n₁} {sc₂ = sc₂} start child e done is_done = record {
-    start = start;
-    child = child;
-    answer = subst (λ (o : Out). Answered τ p sc₁ n₁ o sc₂) is_done (answered start e done);
-  }
-
-  -- a field's answer, with fuel for the row
-  answer_says : {τ : Tag} {p : Ptr} {sc₁ : List ℕ} {n₁ : ℕ} {r : Out} {sc₂ : List ℕ} (f : ℕ) → height_of l sc m row ≤ suc f →
-      Went l sc nlib m x sc₁ n₁ → Child (store_of l sc m) (height_of l sc m row) τ p → Answered τ p sc₁ n₁ r sc₂ →
-      Wrote l sc₁ n₁ r sc₂ (on_field most x (rec f) c (store_of l sc₁ n₁) τ (ptr_of p))
-  answer_says {τ} {p} {sc₁} {n₁} f h start child answer =
-      answer.wrote f (let k = child.lower in omega (arith, same_height l sc nlib m row c x given sc₁ n₁ start τ p child))
-
-  module _ {τ : Tag} {p : Ptr} {sc₁ : List ℕ} {n₁ : ℕ} {q : Ptr} {sc₂ : List ℕ} {n₂ : ℕ} (turn : Turn τ p sc₁ n₁ q sc₂ n₂) where
-    here : FieldSays l sc₁ n₁ (most_rows nlib sc₁) τ p c x (Done q n₂) sc₂
-    here = subst (λ (k : ℕ). FieldSays l sc₁ n₁ k τ p c x (Done q n₂) sc₂) (ap (λ (k : ℕ). nlib + k / 9) (sym turn.start.same_length)) turn.answer
-
-    pub turn_kept : FieldKept turn.start.ready.sound.declarations τ (store_of l sc₁ n₁) (ptr_of p) (got (store_of l sc₂ n₂) (ptr_of q))
-    turn_kept = kept_field l sc₁ nlib n₁ τ p c x turn.start.ready q n₂ sc₂ (child_ok l sc nlib m row c x given sc₁ n₁ turn.start τ p turn.child) here
-
-    pub turn_after : Went l sc nlib m x sc₂ n₂
-    turn_after = went_then turn.start (went_field l sc₁ nlib n₁ τ p c x turn.start.ready q n₂ sc₂ (child_ok l sc nlib m row c x given sc₁ n₁ turn.start τ p turn.child) here)
-
-    turn_says : (f : ℕ) → height_of l sc m row ≤ suc f → Wrote l sc₁ n₁ (Done q n₂) sc₂ (on_field most x (rec f) c (store_of l sc₁ n₁) τ (ptr_of p))
-    turn_says f h = answer_says f h turn.start turn.child turn.answer
-
-    -- what the next fields come to, the row comes to
-    turn_then : (f : ℕ) → height_of l sc m row ≤ suc f → (τ' : Tag) → τ' ≡ τ → (next : Got → course.Out) →
-        next (got (store_of l sc₂ n₂) (shown τ (ptr_of q))) ≡ and_on (on_field most x (rec f) c (store_of l sc₁ n₁) τ' (shown τ (ptr_of p))) next
-    turn_then f h τ' t next = field_then most x (rec f) c (store_of l sc₁ n₁) τ τ' (ptr_of p) (ptr_of q) (store_of l sc₂ n₂) next t (turn_says f h).says
-
-  -- A REFUSAL
-
-  stops : {τ : Tag} {p : Ptr} {sc₁ : List ℕ} {n₁ : ℕ} {r : Out} {sc₂ : List ℕ} {n : ℕ} (f : ℕ) → height_of l sc m row ≤ suc f →
-      Went l sc nlib m x sc₁ n₁ → Child (store_of l sc m) (height_of l sc m row) τ p → Answered τ p sc₁ n₁ r sc₂ → r ≡ Refused n →
-      (τ' : Tag) → τ' ≡ τ → (next : Got → course.Out) → Wrote l sc₁ n₁ r sc₂ (and_on (on_field most x (rec f) c (store_of l sc₁ n₁) τ' (shown τ (ptr_of p))) next)
-  stops {τ} {p} {sc₁} {n₁} {r} {sc₂} {n} f h start child answer e τ' t next =
-      let w = answer_says f h start child answer in
-      let q : course.refused n ≡ on_field most x (rec f) c (store_of l sc₁ n₁) τ (ptr_of p) = sym (ap (λ (o : Out). out_of o l sc₂) e) ∙ w.says in
-      says_also w (sym q ∙ field_refused most x (rec f) c (store_of l sc₁ n₁) τ τ' (ptr_of p) next n t q)
-
-  near_stopped : {r : Out} {n z : ℕ} → r ≡ Refused n → Near nlib z r
-  near_stopped {r} {n} {z} e = subst (Near nlib z) (sym e) near_refused
-
-  abbrev pub first : Child (store_of l sc m) (height_of l sc m row) (mark 0) w.first
-  first = first_child l sc nlib m row c x given w is kind
-
-  abbrev pub second : Child (store_of l sc m) (height_of l sc m row) (mark 1) w.second
-  second = second_child l sc nlib m row c x given w is kind
-
-  abbrev pub third : Child (store_of l sc m) (height_of l sc m row) (mark 2) w.third
-  third = third_child l sc nlib m row c x given w is kind
-
-  pub first_refused : {r : Out} {sc₁ : List ℕ} {n : ℕ} → Answered (mark 0) w.first sc m r sc₁ → r ≡ Refused n → RowDone l sc nlib m row c x r sc₁
-  first_refused answer e = record {
-    wrote = λ f h. says_also (stops f h begun first answer e _ (tag_at_lem (λ t. t.first)) _) (row_by_fields f);
-    near = near_stopped e;
-  }
-
-  module _ {q₀ : Ptr} {sc₁ : List ℕ} {n₁ : ℕ} (turn₀ : Turn (mark 0) w.first sc m q₀ sc₁ n₁) where
-    -- what is answered after the first field is answered for the row
-    after_first : (f : ℕ) → height_of l sc m row ≤ suc f → {r : Out} {sc' : List ℕ} (next : Got → course.Out) →
-        Wrote l sc₁ n₁ r sc' (next (got (store_of l sc₁ n₁) (shown (mark 0) (ptr_of q₀)))) →
-        Wrote l sc m r sc' (and_on (on_field most x (rec f) c (store_of l sc m) (fields (the_kind l sc nlib m row c x given w is kind)).first (shown (mark 0) (ptr_of w.first))) next)
-    after_first f h {r} {sc'} next v =
-        wrote_then l sc m q₀ n₁ sc₁ _ (turn_says turn₀ f h) r sc' _ (says_also v (turn_then turn₀ f h _ (tag_at_lem (λ t. t.first)) next))
-
-    pub second_refused : {r : Out} {sc₂ : List ℕ} {n : ℕ} → Answered (mark 1) w.second sc₁ n₁ r sc₂ → r ≡ Refused n → RowDone l sc nlib m row c x r sc₂
-    second_refused answer e = record {
-      wrote = λ f h. says_also (after_first f h _ (stops f h (turn_after turn₀) second answer e _ (tag_at_lem (λ t. t.second)) _)) (row_by_fields f);
-      near = near_stopped e;
+    row_done : {r : Out} {sc' : List ℕ} → ((f : ℕ) → height_of l sc m row ≤ suc f → Wrote l sc m r sc' (from_first f)) →
+        Near nlib (shift_of x.value + c) r → RowDone l sc nlib m row c x r sc'
+    unfolding row_in
+    row_done wrote near = record {
+      wrote = λ f fuel. says_also (wrote f fuel) (ap (row_in most (value_of x) x.by (rec f) c (store_of l sc m) row) (sym (row_node o.seen o.kind)));
+      near = near;
     }
+      where
+        most : ℕ
+        most = most_rows nlib sc
 
-    module _ {q₁ : Ptr} {sc₂ : List ℕ} {n₂ : ℕ} (turn₁ : Turn (mark 1) w.second sc₁ n₁ q₁ sc₂ n₂) where
-      after_second : (f : ℕ) → height_of l sc m row ≤ suc f → {r : Out} {sc' : List ℕ} (next : Got → course.Out) →
-          Wrote l sc₂ n₂ r sc' (next (got (store_of l sc₂ n₂) (shown (mark 1) (ptr_of q₁)))) →
-          Wrote l sc₁ n₁ r sc' (and_on (on_field most x (rec f) c (store_of l sc₁ n₁) (fields (the_kind l sc nlib m row c x given w is kind)).second (shown (mark 1) (ptr_of w.second))) next)
-      after_second f h {r} {sc'} next v =
-          wrote_then l sc₁ n₁ q₁ n₂ sc₂ _ (turn_says turn₁ f h) r sc' _ (says_also v (turn_then turn₁ f h _ (tag_at_lem (λ t. t.second)) next))
+        rec : ℕ → ℕ → Store → rules.Ptr → course.Out
+        rec f = replace_in most (value_of x) x.by f
 
-      pub third_refused : {r : Out} {sc₃ : List ℕ} {n : ℕ} → Answered (mark 2) w.third sc₂ n₂ r sc₃ → r ≡ Refused n → RowDone l sc nlib m row c x r sc₃
-      third_refused answer e = record {
-        wrote = λ f h. says_also (after_first f h _ (after_second f h _ (stops f h (turn_after turn₁) third answer e _ (tag_at_lem (λ t. t.third)) _))) (row_by_fields f);
-        near = near_stopped e;
-      }
+    -- THE FIRST FIELD
 
-      -- THE NEW ROW
+    pub first_next : Next l sc nlib m row x (tag_at w.kind 0) w.first sc m
+    first_next = record { went = went_nowhere l sc nlib m x o.seen.given.ready; child = first_child o.seen o.kind }
 
-      module _ {q₂ : Ptr} {sc₃ : List ℕ} {n₃ : ℕ} (turn₂ : Turn (mark 2) w.third sc₂ n₂ q₂ sc₃ n₃) where
-        abbrev new : Shape
-        new = record { kind = w.kind; first = q₀; second = q₁; third = q₂ }
+    module _ {tag : kinds.Tag} (is_tag : tag_of tag ≡ tag_at w.kind 0) where
+      pub first_refused : {k : Refusal} {sc₁ : List ℕ} → FieldDone l sc nlib m tag w.first c x (Err k) sc₁ → RowDone l sc nlib m row c x (Err k) sc₁
+      first_refused done = row_done (λ f fuel. stops f fuel first_next (says_next first_next is_tag done) (tag_at_lem (λ t. t.first)) _) near_refused
 
-        below : (τ : Tag) (q : Ptr) {s' : Store} → Ext s' (store_of l sc₃ n₃) → FieldOk s' (length s') (shown τ (ptr_of q)) τ → (τ ≡ plain → ⊥) → q.row < nlib + n₃
-        below τ q more ok f = omega (arith, stands_in τ (ptr_of q) (ext_good_field more ok) f, held_length l sc₃ n₃ nlib (turn_after turn₂).ready.sound.held)
+      pub first_done : {q₁ : Ptr} {sc₁ : List ℕ} {n₁ : ℕ} → FieldDone l sc nlib m tag w.first c x (Ok (q₁, n₁)) sc₁ →
+          One l sc nlib m row c x w q₁ sc₁ n₁
+      first_done done = record { opened = o; turn = turned first_next is_tag done }
 
-        right : Formed w
-        right = formed l sc nlib m row c x given w is
+  -- THE SECOND
 
-        pub new_due : Due (nlib + n₃) new
-        new_due = record {
-          kind = right.kind;
-          tidy = same_tidy w q₀ q₁ q₂ right.kind right.tidy (turn_kept turn₀).same (turn_kept turn₁).same (turn_kept turn₂).same;
-          first = below (mark 0) q₀ (ext_then (turn_kept turn₁).more (turn_kept turn₂).more) (turn_kept turn₀).field;
-          second = below (mark 1) q₁ (turn_kept turn₂).more (turn_kept turn₁).field;
-          third = below (mark 2) q₂ (ext_same (store_of l sc₃ n₃)) (turn_kept turn₂).field;
-        }
+  module _ {q₁ : Ptr} {sc₁ : List ℕ} {n₁ : ℕ} (one : One l sc nlib m row c x w q₁ sc₁ n₁) where
+    pub second_next : Next l sc nlib m row x (tag_at w.kind 1) w.second sc₁ n₁
+    second_next = record { went = turn_after one.turn; child = second_child one.opened.seen one.opened.kind }
 
-        new_row : row_of new ≡ node (the_kind l sc nlib m row c x given w is kind) (shown (mark 0) (ptr_of q₀)) (shown (mark 1) (ptr_of q₁)) (shown (mark 2) (ptr_of q₂))
-        new_row =
-            node_by w.kind (ptr_of q₀) (ptr_of q₁) (ptr_of q₂) kind
-            ∙ ap (λ (κ : Kind). node κ (shown (mark 0) (ptr_of q₀)) (shown (mark 1) (ptr_of q₁)) (shown (mark 2) (ptr_of q₂)))
-            (same_kind w.kind (ptr_of w.first) (ptr_of w.second) (ptr_of q₀) (ptr_of q₁) right.kind (turn_kept turn₀).same (turn_kept turn₁).same)
+    after_first : {r : Out} {sc' : List ℕ} → ((f : ℕ) → height_of l sc m row ≤ suc f →
+        Wrote l sc₁ n₁ r sc' (from_second one.opened f (shown (tag_at w.kind 0) (ptr_of q₁)) (store_of l sc₁ n₁))) →
+        (f : ℕ) → height_of l sc m row ≤ suc f → Wrote l sc m r sc' (from_first one.opened f)
+    after_first wrote f fuel = goes_on f fuel one.turn (tag_at_lem one.opened (λ t. t.first)) _ (wrote f fuel)
 
-        pub made_row : {r : Out} {sc₄ : List ℕ} → Wrote l sc₃ n₃ r sc₄ (put_in (most_rows nlib sc₃) (store_of l sc₃ n₃) (row_of new)) → RowDone l sc nlib m row c x r sc₄
-        made_row {r} {sc₄} made = record { wrote = λ f h. says_also (after_first f h _ (after_second f h _ (after_third f h))) (row_by_fields f); near = near_put l sc₃ nlib n₃ _ _ (turn_after turn₂).ready.sound.held _ r sc₄ made }
-          where
-            as_due : Wrote l sc₃ n₃ r sc₄ (put_in most (store_of l sc₃ n₃) (node (the_kind l sc nlib m row c x given w is kind) (shown (mark 0) (ptr_of q₀)) (shown (mark 1) (ptr_of q₁)) (shown (mark 2) (ptr_of q₂))))
-            as_due = says_also made (ap (λ (k : ℕ). put_in (nlib + k / 9) (store_of l sc₃ n₃) (row_of new)) (turn_after turn₂).same_length ∙ ap (put_in most (store_of l sc₃ n₃)) new_row)
+    module _ {tag : kinds.Tag} (is_tag : tag_of tag ≡ tag_at w.kind 1) where
+      pub second_refused : {k : Refusal} {sc₂ : List ℕ} → FieldDone l sc₁ nlib n₁ tag w.second c x (Err k) sc₂ → RowDone l sc nlib m row c x (Err k) sc₂
+      second_refused done =
+          row_done one.opened
+          (after_first λ f fuel. stops f fuel second_next (says_next second_next is_tag done) (tag_at_lem one.opened (λ t. t.second)) _) near_refused
 
-            after_third : (f : ℕ) → height_of l sc m row ≤ suc f →
-                Wrote l sc₂ n₂ r sc₄ (and_on (on_field most x (rec f) c (store_of l sc₂ n₂) (fields (the_kind l sc nlib m row c x given w is kind)).third (shown (mark 2) (ptr_of w.third))) λ g₃.
-                put_in most g₃.store (node (the_kind l sc nlib m row c x given w is kind) (shown (mark 0) (ptr_of q₀)) (shown (mark 1) (ptr_of q₁)) g₃.at))
-            after_third f h = wrote_then l sc₂ n₂ q₂ n₃ sc₃ _ (turn_says turn₂ f h) r sc₄ _ (says_also as_due (turn_then turn₂ f h _ (tag_at_lem (λ t. t.third)) _))
+      pub second_done : {q₂ : Ptr} {sc₂ : List ℕ} {n₂ : ℕ} → FieldDone l sc₁ nlib n₁ tag w.second c x (Ok (q₂, n₂)) sc₂ →
+          Two l sc nlib m row c x w q₁ q₂ sc₂ n₂
+      second_done done = record { sc₁ = sc₁; n₁ = n₁; one = one; turn = turned second_next is_tag done }
+
+  -- THE THIRD
+
+  module _ {q₁ q₂ : Ptr} {sc₂ : List ℕ} {n₂ : ℕ} (two : Two l sc nlib m row c x w q₁ q₂ sc₂ n₂) where
+    abbrev pub two_opened : Opened l sc nlib m row c x w
+    two_opened = two.one.opened
+
+    pub third_next : Next l sc nlib m row x (tag_at w.kind 2) w.third sc₂ n₂
+    third_next = record { went = turn_after two.turn; child = third_child two_opened.seen two_opened.kind }
+
+    after_second : {r : Out} {sc' : List ℕ} → ((f : ℕ) → height_of l sc m row ≤ suc f →
+        Wrote l sc₂ n₂ r sc' (from_third two_opened f (shown (tag_at w.kind 0) (ptr_of q₁)) (shown (tag_at w.kind 1) (ptr_of q₂)) (store_of l sc₂ n₂))) →
+        (f : ℕ) → height_of l sc m row ≤ suc f → Wrote l sc m r sc' (from_first two_opened f)
+    after_second wrote = after_first two.one λ f fuel. goes_on f fuel two.turn (tag_at_lem two_opened (λ t. t.second)) _ (wrote f fuel)
+
+    module _ {tag : kinds.Tag} (is_tag : tag_of tag ≡ tag_at w.kind 2) where
+      pub third_refused : {k : Refusal} {sc₃ : List ℕ} → FieldDone l sc₂ nlib n₂ tag w.third c x (Err k) sc₃ → RowDone l sc nlib m row c x (Err k) sc₃
+      third_refused done =
+          row_done two_opened
+          (after_second λ f fuel. stops f fuel third_next (says_next third_next is_tag done) (tag_at_lem two_opened (λ t. t.third)) _) near_refused
+
+      pub third_done : {q₃ : Ptr} {sc₃ : List ℕ} {n₃ : ℕ} → FieldDone l sc₂ nlib n₂ tag w.third c x (Ok (q₃, n₃)) sc₃ →
+          Three l sc nlib m row c x w q₁ q₂ q₃ sc₃ n₃
+      third_done done = record { sc₂ = sc₂; n₂ = n₂; two = two; turn = turned third_next is_tag done }
+
+  -- THE NEW ROW
+
+  module _ {q₁ q₂ q₃ : Ptr} {sc₃ : List ℕ} {n₃ : ℕ} (three : Three l sc nlib m row c x w q₁ q₂ q₃ sc₃ n₃) where
+    abbrev new : Shape
+    new = record { kind = w.kind; first = q₁; second = q₂; third = q₃ }
+
+    abbrev opened : Opened l sc nlib m row c x w
+    opened = two_opened three.two
+
+    pub new_held : Held l sc₃ n₃ nlib
+    new_held = (turn_after three.turn).ready.sound.held
+
+    pub new_due : Due (nlib + n₃) new
+    new_due =
+        let a = three.two.one.turn in
+        let b = three.two.turn in
+        let c = three.turn in
+        due_again (nlib + n₃) w.kind w.first w.second w.third q₁ q₂ q₃ (formed opened.seen)
+        (turn_same a) (turn_same b) (turn_same c)
+        (λ f. omega (arith, turn_lower a f, turn_upward b, turn_upward c))
+        (λ f. omega (arith, turn_lower b f, turn_upward c))
+        (turn_lower c)
+
+    new_row : row_of new ≡ node (κ opened) (shown (tag_at w.kind 0) (ptr_of q₁)) (shown (tag_at w.kind 1) (ptr_of q₂)) (shown (tag_at w.kind 2) (ptr_of q₃))
+    new_row =
+        nine.row_node w.kind (ptr_of q₁) (ptr_of q₂) (ptr_of q₃) opened.kind
+        ∙ ap (λ (k : Kind). node k (shown (tag_at w.kind 0) (ptr_of q₁)) (shown (tag_at w.kind 1) (ptr_of q₂)) (shown (tag_at w.kind 2) (ptr_of q₃)))
+        (kind_kept w.kind (ptr_of w.first) (ptr_of w.second) (ptr_of q₁) (ptr_of q₂) (formed opened.seen).kind
+        (λ e. ap ptr_of (turn_same three.two.one.turn e)) (λ e. ap ptr_of (turn_same three.two.turn e)))
+
+    abbrev put : ℕ → Row → course.Out
+    put most y = put_in most (store_of l sc₃ n₃) y
+
+    pub made_row : {r : Out} {sc₄ : List ℕ} → Wrote l sc₃ n₃ r sc₄ (put (most_rows nlib sc₃) (row_of new)) → RowDone l sc nlib m row c x r sc₄
+    made_row {r} {sc₄} made =
+        let same : most_rows nlib sc₃ ≡ most_rows nlib sc = ap (λ (k : ℕ). nlib + k / 9) (turn_after three.turn).same_length in
+        let due = says_also made (ap (λ (k : ℕ). put k (row_of new)) same ∙ ap (put (most_rows nlib sc)) new_row) in
+        row_done opened
+        (after_second three.two λ f fuel. goes_on f fuel three.turn (tag_at_lem opened (λ t. t.third)) _ due)
+        (near_put l sc₃ nlib n₃ _ _ new_held _ r sc₄ made)

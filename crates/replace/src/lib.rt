@@ -1,18 +1,29 @@
 // Replacement down the rows: at cutoff c, with one value or none and a move. Recursive over children in field order, with the recorded height falling.
 #![tactic(auto)]
 
-ghost use Rattle.replace.specs.Replaced.{IndexReady, FieldReady, RowReady, PtrReady, IndexDone, FieldDone, RowDone, Replaced};
+ghost use Rattle.std.specs.Prelude.{◌≡◌};
+ghost use Rattle.rules.specs.Replacement.{count};
+ghost use Rattle.replace.specs.Replaced.{value_of, IndexReady, FieldReady, RowReady, PtrReady, IndexDone, FieldDone, RowDone, Replaced};
 
-use rows::kinds::field_tag;
+use rows::kinds::{Kind, Tag, field_tag};
+use rows::refusals::Out;
 use rows::writer::{make, make_var};
-use rows::{Out, Ptr, Shape, ptr_bound, row_at, shape_of, shift_up};
+use rows::{Ptr, Shape, ptr_bound, row_at, shape_of, shift_up};
 
-// One value (count 1) or none (count 0), and the move of the indices past it.
-#[derive(Clone, Copy)]
+// One value or none, and the move of the indices past it.
+#[derive(Clone, Copy, Debug, PartialEq, Eq)]
 pub struct Sub {
-    pub value: Ptr,
-    pub count: u32,
+    pub value: Option<Ptr>,
     pub by: u32,
+}
+
+impl Sub {
+    // How many values there are: 1 or 0.
+    fn count(self) -> u32
+        ensures { result ≡ count (value_of self) }
+    {
+        u32::from(self.value.is_some())
+    }
 }
 
 // A variable's row: an index below the cutoff stays, the one at it is the value, one past it moves and is written.
@@ -30,23 +41,22 @@ fn on_index(
     ensures { IndexDone library.now scratch.old nlib mark row i c x result scratch.new }
 {
     if i < c {
-        return Out::Done(Ptr { row, shift: 0 }, mark);
+        return Ok((Ptr { row, shift: 0 }, mark));
     }
-    let v = x.value;
-    if i < c + x.count {
-        return Out::Done(shift_up(library, &scratch[..], v, c), mark);
+    match x.value {
+        Some(v) if i == c => Ok((shift_up(library, scratch, v, c), mark)),
+        _ => make_var(library, scratch, nlib, mark, i - x.count() + x.by),
     }
-    make_var(library, scratch, nlib, mark, i - x.count + x.by)
 }
 
 // A field by the table: a plain word stays, a term is replaced in, a body at the next cutoff.
-#[cycle(on_field_on_row_replace)]
+#[cycle(replace)]
 fn on_field(
     library: &[u32],
     scratch: &mut [u32],
     nlib: u32,
     mark: u32,
-    tag: u8,
+    tag: Tag,
     p: Ptr,
     c: u32,
     x: Sub,
@@ -54,17 +64,15 @@ fn on_field(
     requires { FieldReady library.now scratch.old nlib mark tag p c x }
     ensures { FieldDone library.now scratch.old nlib mark tag p c x result scratch.new }
 {
-    if tag == 0 {
-        return Out::Done(p, mark);
+    match tag {
+        Tag::Plain => Ok((p, mark)),
+        Tag::Term => replace(library, scratch, nlib, mark, p, c, x),
+        Tag::Body => replace(library, scratch, nlib, mark, p, c + 1, x),
     }
-    if tag == 1 {
-        return replace(library, scratch, nlib, mark, p, c, x);
-    }
-    replace(library, scratch, nlib, mark, p, c + 1, x)
 }
 
 // An unshifted row: a variable, or the children in field order and then the new row.
-#[cycle(on_field_on_row_replace)]
+#[cycle(replace)]
 fn on_row(
     library: &[u32],
     scratch: &mut [u32],
@@ -77,37 +85,25 @@ fn on_row(
     requires { RowReady library.now scratch.old nlib mark row c x }
     ensures { RowDone library.now scratch.old nlib mark row c x result scratch.new }
 {
-    let w = shape_of(row_at(library, &scratch[..], row));
-    let kind = w.kind;
-    let p0 = w.first;
-    let p1 = w.second;
-    let p2 = w.third;
-    if kind == 0 {
-        return on_index(library, scratch, nlib, mark, row, p0.row, c, x);
+    let w = shape_of(row_at(library, scratch, row));
+    let (p1, p2, p3) = (w.first, w.second, w.third);
+    if w.kind == Kind::Variable.into() {
+        return on_index(library, scratch, nlib, mark, row, p1.row, c, x);
     }
-    let first = on_field(library, scratch, nlib, mark, field_tag(kind, 0), p0, c, x);
-    let Out::Done(q0, m0) = first else {
-        return first;
-    };
-    let second = on_field(library, scratch, nlib, m0, field_tag(kind, 1), p1, c, x);
-    let Out::Done(q1, m1) = second else {
-        return second;
-    };
-    let third = on_field(library, scratch, nlib, m1, field_tag(kind, 2), p2, c, x);
-    let Out::Done(q2, m2) = third else {
-        return third;
-    };
+    let (q1, m1) = on_field(library, scratch, nlib, mark, field_tag(w.kind, 0), p1, c, x)?;
+    let (q2, m2) = on_field(library, scratch, nlib, m1, field_tag(w.kind, 1), p2, c, x)?;
+    let (q3, m3) = on_field(library, scratch, nlib, m2, field_tag(w.kind, 2), p3, c, x)?;
     let new = Shape {
-        kind,
-        first: q0,
-        second: q1,
-        third: q2,
+        kind: w.kind,
+        first: q1,
+        second: q2,
+        third: q3,
     };
-    make(library, scratch, nlib, m2, new)
+    make(library, scratch, nlib, m3, new)
 }
 
 // The three cases of a pointer: bound at most c, shift at least c + n, otherwise.
-#[cycle(on_field_on_row_replace)]
+#[cycle(replace)]
 pub fn replace(
     library: &[u32],
     scratch: &mut [u32],
@@ -120,22 +116,18 @@ pub fn replace(
     requires { PtrReady library.now scratch.old nlib mark p c x }
     ensures { Replaced library.now scratch.old nlib mark p c x result scratch.new }
 {
-    if ptr_bound(library, &scratch[..], p) <= (c as u64) {
-        return Out::Done(p, mark);
+    if ptr_bound(library, scratch, p) <= u64::from(c) {
+        return Ok((p, mark));
     }
     let s = p.shift;
-    if c + x.count <= s {
-        return Out::Done(
-            Ptr {
-                row: p.row,
-                shift: s - x.count + x.by,
-            },
-            mark,
-        );
+    let n = x.count();
+    if c + n <= s {
+        let moved = Ptr {
+            row: p.row,
+            shift: s - n + x.by,
+        };
+        return Ok((moved, mark));
     }
-    let inside = on_row(library, scratch, nlib, mark, p.row, c - s, x);
-    let Out::Done(q, m) = inside else {
-        return inside;
-    };
-    Out::Done(shift_up(library, &scratch[..], q, s), m)
+    let (q, m) = on_row(library, scratch, nlib, mark, p.row, c - s, x)?;
+    Ok((shift_up(library, scratch, q, s), m))
 }

@@ -4,34 +4,26 @@
 
 ghost use Rattle.std.specs.Prelude.{◌≡◌, true};
 ghost use Rattle.substitution.specs.Stores.{Good};
+ghost use Rattle.substitution.specs.Existence.{ValueGood};
 ghost use Rattle.rows.specs.Words.{ptr_of, store_of, Held};
+ghost use Rattle.replace.specs.Replaced.{value_of};
 ghost use Rattle.replace_run.specs.Small.{Small};
 
 use replace::Sub;
-use rows::row_check::{Checked, check_rows};
-use rows::{Out, Ptr, bound_of, row_at};
+use rows::refusals::{Out, Refusal};
+use rows::row_check::check_rows;
+use rows::{Ptr, bound_of, row_at};
 use std::io;
 
 // The library has whole rows, and so has the scratch.
 fn held(library: &[u32], scratch: &[u32], nlib: u32, mark: u32) -> bool
     ensures { result ≡ true → Held library.now scratch.now mark nlib }
 {
-    if 65536 < nlib {
-        return false;
-    }
-    if library.len() != 9 * (nlib as usize) {
-        return false;
-    }
-    if scratch.len() % 9 != 0 {
-        return false;
-    }
-    if 589824 < scratch.len() {
-        return false;
-    }
-    if scratch.len() < 9 * (mark as usize) {
-        return false;
-    }
-    true
+    nlib <= 65536
+        && library.len() == 9 * (nlib as usize)
+        && scratch.len() % 9 == 0
+        && scratch.len() <= 589824
+        && 9 * (mark as usize) <= scratch.len()
 }
 
 // The pointer stands below the mark, and a closed one has no shift.
@@ -39,58 +31,38 @@ fn good<'a>(library: &'a [u32], scratch: &'a [u32], nlib: u32, mark: u32, p: Ptr
     requires { Held library.now scratch.now mark nlib }
     ensures { result ≡ true → Good (store_of library.now scratch.now mark) (ptr_of p) }
 {
-    if nlib + mark <= p.row {
-        return false;
-    }
-    let b = bound_of(row_at(library, scratch, p.row));
-    if b == 0 {
-        if p.shift == 0 {
-            return true;
-        }
-        return false;
-    }
-    true
+    p.row < nlib + mark && (p.shift == 0 || bound_of(row_at(library, scratch, p.row)) != 0)
 }
 
-// One value or none, and numbers whose sums do not wrap.
+// The value, if there is one, is good.
+fn good_value<'a>(library: &'a [u32], scratch: &'a [u32], nlib: u32, mark: u32, x: Sub) -> bool
+    requires { Held library.now scratch.now mark nlib }
+    ensures { result ≡ true → ValueGood (store_of library.now scratch.now mark) (value_of x) }
+{
+    match x.value {
+        Some(v) => good(library, scratch, nlib, mark, v),
+        None => true,
+    }
+}
+
+// Numbers whose sums do not wrap.
 fn small(p: Ptr, c: u32, x: Sub) -> bool
     ensures { result ≡ true → Small p c x }
 {
-    if 1 < x.count {
-        return false;
-    }
-    if 60000 < c {
-        return false;
-    }
-    if 60000 < p.shift {
-        return false;
-    }
-    if 60000 < x.value.shift {
-        return false;
-    }
-    if 60000 < x.by {
-        return false;
-    }
-    true
+    c <= 60000 && p.shift <= 60000 && x.value.is_none_or(|v| v.shift <= 60000) && x.by <= 60000
 }
 
 // Replacement, where all that it requires holds.
 fn replaced(library: &[u32], scratch: &mut [u32], nlib: u32, p: Ptr, c: u32, x: Sub) -> Out {
-    if !held(library, &scratch[..], nlib, 0) {
-        return Out::Refused(1);
+    if !held(library, scratch, nlib, 0) {
+        return Err(Refusal::Sizes);
     }
-    let checked = check_rows(library, &scratch[..], nlib, 0, 4096);
-    let Checked::AllPass = checked else {
-        return Out::Refused(2);
-    };
-    if !good(library, &scratch[..], nlib, 0, p) {
-        return Out::Refused(3);
-    }
-    if !good(library, &scratch[..], nlib, 0, x.value) {
-        return Out::Refused(3);
-    }
-    if !small(p, c, x) {
-        return Out::Refused(3);
+    check_rows(library, scratch, nlib, 0, 4096).map_err(|refused| refused.refusal)?;
+    if !good(library, scratch, nlib, 0, p)
+        || !good_value(library, scratch, nlib, 0, x)
+        || !small(p, c, x)
+    {
+        return Err(Refusal::Table);
     }
     replace::replace(library, scratch, nlib, 0, p, c, x)
 }
@@ -105,120 +77,77 @@ const LIBRARY: [u32; 108] = [
 
 const ROWS: u32 = 12;
 
-fn at(row: u32, shift: u32) -> Ptr {
+// Each case's name, pointer (row and shift), cutoff, value or none, move and count of free rows, as answers.py prints them.
+const CASES: [(&str, (u32, u32), u32, Option<(u32, u32)>, u32, usize); 18] = [
+    ("E2", (2, 0), 0, Some((1, 0)), 0, 3),
+    ("E3", (3, 0), 0, Some((1, 0)), 2, 3),
+    ("value up under a binder", (6, 0), 0, Some((2, 0)), 0, 3),
+    ("value not moved", (2, 0), 0, Some((3, 0)), 2, 3),
+    ("closed result", (5, 1), 1, Some((1, 0)), 0, 3),
+    (
+        "index written though it stays",
+        (3, 0),
+        0,
+        Some((1, 0)),
+        1,
+        3,
+    ),
+    ("shared row twice", (7, 0), 0, Some((1, 0)), 3, 3),
+    ("shift moved", (3, 2), 0, Some((1, 0)), 5, 3),
+    ("bound at the cutoff", (3, 1), 3, Some((1, 0)), 5, 3),
+    ("no value, shift moved", (5, 0), 0, None, 3, 3),
+    ("no value, past the cutoff", (7, 0), 1, None, 3, 3),
+    (
+        "let, body at the next cutoff",
+        (8, 0),
+        0,
+        Some((2, 4)),
+        2,
+        3,
+    ),
+    ("projection keeps its words", (9, 0), 0, Some((1, 0)), 0, 3),
+    ("closed children", (11, 2), 2, Some((3, 0)), 6, 3),
+    ("8 before 5", (3, 0), 0, Some((1, 0)), 5000, 0),
+    ("5", (3, 0), 0, Some((1, 0)), 0, 0),
+    ("5 at the second row", (7, 0), 0, Some((1, 0)), 3, 1),
+    ("8 at the new row", (5, 0), 0, Some((3, 4095)), 0, 3),
+];
+
+fn at((row, shift): (u32, u32)) -> Ptr {
     Ptr { row, shift }
-}
-
-fn sub(row: u32, shift: u32, count: u32, by: u32) -> Sub {
-    Sub {
-        value: Ptr { row, shift },
-        count,
-        by,
-    }
-}
-
-fn write_number(rt: &impl Print, n: u32) -> io::Result<()> {
-    print!(rt; " {n}")
-}
-
-fn write_words(rt: &impl Print, words: &[u32]) -> io::Result<()> {
-    for word in words {
-        write_number(rt, *word)?;
-    }
-    Ok(())
 }
 
 // The pointer, the rows written, and their words; or the refusal.
 fn write_out(rt: &impl Print, out: Out, scratch: &[u32]) -> io::Result<()> {
     match out {
-        Out::Done(q, mark) => {
+        Ok((q, mark)) => {
             print!(rt; " {} {} {mark}", q.row, q.shift)?;
-            let to = 9 * (mark as usize);
-            if to <= scratch.len() {
-                write_words(rt, &scratch[..to])?;
+            for word in scratch.iter().take(9 * (mark as usize)) {
+                print!(rt; " {word}")?;
             }
             Ok(())
         }
-        Out::Refused(number) => print!(rt; " refused {number}"),
+        Err(refusal) => print!(rt; " {refusal}"),
     }
 }
 
-// A case's answer, with the scratch's free rows.
-fn write_case(rt: &impl Print, scratch: &mut [u32], p: Ptr, c: u32, x: Sub) -> io::Result<()> {
-    let library = LIBRARY;
-    let out = replaced(&library, scratch, ROWS, p, c, x);
-    write_out(rt, out, &scratch[..])
-}
-
-// A case's line, with so many free rows.
+// A case's line.
 fn run(rt: &impl Print, name: &str, p: Ptr, c: u32, x: Sub, free: usize) -> io::Result<()> {
-    let mut scratch = [0u32; 27];
+    let mut scratch = [0; 27];
+    let free_rows = &mut scratch[..9 * free.min(3)];
     print!(rt; "{name}:")?;
-    if free <= 3 {
-        write_case(rt, &mut scratch[..9 * free], p, c, x)?;
-    }
+    let out = replaced(&LIBRARY, free_rows, ROWS, p, c, x);
+    write_out(rt, out, free_rows)?;
     println!(rt)
 }
 
 fn main(rt: HostRuntime) -> io::Result<()> {
-    run(&rt, "E2", at(2, 0), 0, sub(1, 0, 1, 0), 3)?;
-    run(&rt, "E3", at(3, 0), 0, sub(1, 0, 1, 2), 3)?;
-    run(
-        &rt,
-        "value up under a binder",
-        at(6, 0),
-        0,
-        sub(2, 0, 1, 0),
-        3,
-    )?;
-    run(&rt, "value not moved", at(2, 0), 0, sub(3, 0, 1, 2), 3)?;
-    run(&rt, "closed result", at(5, 1), 1, sub(1, 0, 1, 0), 3)?;
-    run(
-        &rt,
-        "index written though it stays",
-        at(3, 0),
-        0,
-        sub(1, 0, 1, 1),
-        3,
-    )?;
-    run(&rt, "shared row twice", at(7, 0), 0, sub(1, 0, 1, 3), 3)?;
-    run(&rt, "shift moved", at(3, 2), 0, sub(1, 0, 1, 5), 3)?;
-    run(&rt, "bound at the cutoff", at(3, 1), 3, sub(1, 0, 1, 5), 3)?;
-    run(
-        &rt,
-        "no value, shift moved",
-        at(5, 0),
-        0,
-        sub(0, 0, 0, 3),
-        3,
-    )?;
-    run(
-        &rt,
-        "no value, past the cutoff",
-        at(7, 0),
-        1,
-        sub(0, 0, 0, 3),
-        3,
-    )?;
-    run(
-        &rt,
-        "let, body at the next cutoff",
-        at(8, 0),
-        0,
-        sub(2, 4, 1, 2),
-        3,
-    )?;
-    run(
-        &rt,
-        "projection keeps its words",
-        at(9, 0),
-        0,
-        sub(1, 0, 1, 0),
-        3,
-    )?;
-    run(&rt, "closed children", at(11, 2), 2, sub(3, 0, 1, 6), 3)?;
-    run(&rt, "8 before 5", at(3, 0), 0, sub(1, 0, 1, 5000), 0)?;
-    run(&rt, "5", at(3, 0), 0, sub(1, 0, 1, 0), 0)?;
-    run(&rt, "5 at the second row", at(7, 0), 0, sub(1, 0, 1, 3), 1)?;
-    run(&rt, "8 at the new row", at(5, 0), 0, sub(3, 4095, 1, 0), 3)
+    for (name, p, c, value, by, free) in CASES {
+        let x = Sub {
+            value: value.map(at),
+            by,
+        };
+        run(&rt, name, at(p), c, x, free)?;
+    }
+    Ok(())
 }

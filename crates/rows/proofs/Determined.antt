@@ -11,10 +11,11 @@ use Rattle.rules.specs.Rows.{Cell, Store, Got, got, cell_at}
 use Rattle.rules.specs.RowCheck.{Passes}
 use Rattle.rules.specs.Accepted.{IsRow, part, Keep, Lowest}
 use Rattle.course.specs.Charged as course
-use Rattle.rows.specs.declared.Out.{Out}
-use Rattle.rows.specs.declared.Out.TheVariants.{Done, Refused}
-use Rattle.rows.specs.declared.row_check.Checked.{Checked}
-use Rattle.rows.specs.declared.row_check.Checked.TheVariants.{Broken}
+use Rattle.rows.specs.Refusals.{Out, refused_at}
+use Rattle.rows.proofs.RefusalNumbers.{one_number}
+use Rattle.std.specs.Prelude.{Result, Ok, Err, ⊤}
+use Rattle.rows.specs.declared.refusals.Refused.{Refused}
+use Rattle.rows.specs.declared.refusals.Refusal.TheVariants as refusal
 use Rattle.rows.specs.Words.{ptr_of, decode, store_of}
 use Rattle.rows.specs.Checks.{CheckSays, all_pass, broken}
 use Rattle.rows.specs.Writes.{out_of, Wrote}
@@ -30,15 +31,15 @@ unfolding store_of
 rows_in_all l sc m = simp (length-append, length_rows_of)
 
 pub one_out : (l sc sc' : List ℕ) (r r' : Out) → out_of r l sc ≡ out_of r' l sc' → r ≡ r'
-one_out l sc sc' (Done p m) (Done q n) e =
+one_out l sc sc' (Ok (p, m)) (Ok (q, n)) e =
     let same : got (store_of l sc m) (ptr_of p) ≡ got (store_of l sc' n) (ptr_of q) = cc in
     let mark : m ≡ n = omega (arith, rows_in_all l sc m, rows_in_all l sc' n, ap (λ (g : Got). length g.store) same) in
     let row : p.row ≡ q.row = ap (λ (g : Got). g.at.row) same in
     let shift : p.shift ≡ q.shift = ap (λ (g : Got). g.at.shift) same in
-    λ i. Done (record { row = row i; shift = shift i }) (mark i)
-one_out l sc sc' (Done p m) (Refused k) e = cc
-one_out l sc sc' (Refused k) (Done q n) e = cc
-one_out l sc sc' (Refused k) (Refused j) e = ap Refused (cc)
+    λ i. Ok (record { row = row i; shift = shift i }, mark i)
+one_out l sc sc' (Ok (p, m)) (Err k) e = cc
+one_out l sc sc' (Err k) (Ok (q, n)) e = cc
+one_out l sc sc' (Err k) (Err j) e = ap Err (one_number k j (cc))
 
 pub one_wrote : (l sc : List ℕ) (m : ℕ) (out : course.Out) (r r' : Out) (sc₁ sc₂ : List ℕ) → Wrote l sc m r sc₁ out → Wrote l sc m r' sc₂ out → r ≡ r'
 one_wrote l sc m out r r' sc₁ sc₂ w w' = one_out l sc₁ sc₂ r r' (w.says ∙ sym w'.says)
@@ -63,7 +64,7 @@ module _ (D : ℕ) (ws : List ℕ) where
           (λ (b : j ≤ r). let here : r ≡ j = omega arith in ap (cell_at s) here ∙ sym (get_or_at low.lower (cell_at s j) [] _ r (low.keep.many ∙ sym here)))
           (lt_or_ge r j)
 
-pub one_answer : (D : ℕ) (l sc : List ℕ) (m nlib : ℕ) (r r' : Checked) → CheckSays D l sc m nlib r → CheckSays D l sc m nlib r' → r ≡ r'
+pub one_answer : (D : ℕ) (l sc : List ℕ) (m nlib : ℕ) (r r' : Result ⊤ Refused) → CheckSays D l sc m nlib r → CheckSays D l sc m nlib r' → r ≡ r'
 one_answer D l sc m nlib r r' (all_pass keep) (all_pass keep') = refl
 one_answer D l sc m nlib r r' (all_pass keep) (broken {j} low) = absurd (lowest_breaks D (l ++ take (9 * m) sc) _ j _ _ low keep low.inside)
 one_answer D l sc m nlib r r' (broken {j} low) (all_pass keep) = absurd (lowest_breaks D (l ++ take (9 * m) sc) _ j _ _ low keep low.inside)
@@ -73,6 +74,6 @@ one_answer D l sc m nlib r r' (broken {j = i} low) (broken {j = j} low') =
     (λ (h : j ≤ i).
     ⊎_elim
     (λ (k : j < i). absurd (lowest_breaks D (l ++ take (9 * m) sc) _ j i _ low' low.keep k))
-    (λ (k : i ≤ j). let same : i ≡ j = omega arith in ap Broken same)
+    (λ (k : i ≤ j). let same : i ≡ j = omega arith in ap (λ (n : ℕ). Err (refused_at refusal.Row n)) same)
     (lt_or_ge j i))
     (lt_or_ge i j)

@@ -11,13 +11,14 @@ use Rattle.rules.specs.Rows.{Store, blank, var, node, leaf}
 use Rattle.rules.specs.Arithmetic.{words_value}
 use Rattle.course.specs.Charged.{put_in}
 use Rattle.rows.specs.declared.Ptr.{Ptr}
-use Rattle.rows.specs.declared.Out.{Out}
-use Rattle.rows.specs.declared.Out.TheVariants.{Refused}
-use Rattle.rows.specs.Words.{ptr_of, kind_of, tags_at, tag_at, row_by, row_of, leaf_shape}
+use Rattle.rows.specs.declared.refusals.Refusal.TheVariants.{SortLevel}
+use Rattle.rows.specs.Refusals.{Out}
+use Rattle.std.specs.Prelude.{Err}
+use Rattle.rows.specs.Words.{pair, ptr_of, kind_of, tags_at, tag_at, row_by, row_of, leaf_shape}
 use Rattle.rows.specs.Checks.{used, Tidy, Formed}
 use Rattle.rows.specs.Writes.{sort_in, Wrote, Due}
 use Rattle.rows.proofs.NineKinds.{each_kind}
-use Rattle.rows.proofs.Formed.{pair, shape, one_word, two_words, two_pairs, three_pairs}
+use Rattle.rows.proofs.Formed.{shape, one_word, two_words, two_pairs, three_pairs}
 
 -- PLAIN WORDS
 
@@ -183,7 +184,7 @@ module _ (n k : ℕ) (a b c a' b' c' : Ptr) (formed : Formed (shape k a b c))
   due_again f g h = record { kind = formed.kind; tidy = tidy_again; first = f; second = g; third = h }
 
 -- A SORT'S LEVEL: 10 before anything else
-pub level_refused : (l sc : List ℕ) (m most : ℕ) (s : Store) (level : ℕ) → most_level < level → Wrote l sc m (Refused 10) sc (sort_in most s level)
+pub level_refused : (l sc : List ℕ) (m most : ℕ) (s : Store) (level : ℕ) → most_level < level → Wrote l sc m (Err SortLevel) sc (sort_in most s level)
 level_refused l sc m most s level h = record {
   says = simp (lt-ltb _ _ h);
   kept = refl;

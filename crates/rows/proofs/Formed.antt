@@ -10,7 +10,7 @@ use Rattle.rules.specs.Rows.{Cell, leaf}
 use Rattle.rules.specs.Accepted.{recorded, IsRow, var_row, sort_row, const_row, app_row, lam_row, pi_row, let_row, proj_row, num_row}
 use Rattle.rows.specs.declared.Ptr.{Ptr}
 use Rattle.rows.specs.declared.Shape.{Shape}
-use Rattle.rows.specs.Words.{kind_of, tags_at, row_by, shape_at, decode, words_of}
+use Rattle.rows.specs.Words.{pair, kind_of, tags_at, row_by, shape_at, decode, words_of}
 use Rattle.rows.specs.Checks.{used, Tidy, Formed}
 use Rattle.rows.proofs.Parts.{front_nine}
 use Rattle.rows.proofs.NineKinds.{each_kind}
@@ -27,9 +27,6 @@ is_decoded pi_row = refl
 is_decoded let_row = refl
 is_decoded proj_row = refl
 is_decoded (num_row {low} {high} {n} {b} {h} small e) = ap (λ (v : ℕ). recorded (leaf (num v)) b h) (sym e)
-
-abbrev pub pair : ℕ → ℕ → Ptr
-pair r s = record { row = r; shift = s }
 
 abbrev pub shape : ℕ → Ptr → Ptr → Ptr → Shape
 shape k a b c = record { kind = k; first = a; second = b; third = c }

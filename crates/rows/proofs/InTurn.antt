@@ -11,10 +11,11 @@ use Rattle.rules.specs.Rows.{got}
 use Rattle.rules.specs.Accepted.{IsRow, part}
 use Rattle.course.specs.Charged as course
 use Rattle.rows.specs.declared.Ptr.{Ptr}
-use Rattle.rows.specs.declared.Out.{Out}
-use Rattle.rows.specs.declared.Out.TheVariants.{Done}
+use Rattle.rows.specs.Refusals.{Out}
+use Rattle.std.specs.Prelude.{Ok}
 use Rattle.rows.specs.Words.{ptr_of, decode, store_of, words_at, Held}
 use Rattle.rows.specs.Writes.{AreRows, Grown, Wrote}
+use Rattle.rows.proofs.RefusalNumbers.{same_mark}
 use Rattle.rows.proofs.Parts.{lt_or_ge, part_same}
 use Rattle.rows.proofs.Store.{by_place, words_in_library, words_in_scratch, store_same}
 
@@ -28,8 +29,8 @@ later_past xs ys a b h e =
     ap (λ (n : ℕ). drop n xs) (sym at) ∙ sym (drop-drop (b - a) a xs) ∙ ap (drop (b - a)) e ∙ drop-drop (b - a) a ys ∙ ap (λ (n : ℕ). drop n ys) at
 
 -- an answer that writes nothing
-pub wrote_nothing : (l sc : List ℕ) (m : ℕ) (p : Ptr) → 9 * m ≤ length sc → Wrote l sc m (Done p m) sc (course.wrote (got (store_of l sc m) (ptr_of p)))
-wrote_nothing l sc m p room = record { says = refl; kept = refl; same_length = refl; grown = λ q m' e. subst (λ (n : ℕ). Grown sc m sc n) (let z : m ≡ m' = cc in z) none }
+pub wrote_nothing : (l sc : List ℕ) (m : ℕ) (p : Ptr) → 9 * m ≤ length sc → Wrote l sc m (Ok (p, m)) sc (course.wrote (got (store_of l sc m) (ptr_of p)))
+wrote_nothing l sc m p room = record { says = refl; kept = refl; same_length = refl; grown = λ q m' e. subst (λ (n : ℕ). Grown sc m sc n) (same_mark e) none }
   where
     none : Grown sc m sc m
     none = record { upward = omega arith; room = room; past = refl; rows = λ i low high. absurd (omega arith) }
@@ -50,7 +51,7 @@ abbrev IsWords : List ℕ → Type 0
 IsWords ws = IsRow ws (decode ws)
 
 -- a first write that was done, from mark m to m₁, and what follows from there
-module _ (l sc : List ℕ) (m : ℕ) (p : Ptr) (m₁ : ℕ) (sc₁ : List ℕ) (out₁ : course.Out) (first : Wrote l sc m (Done p m₁) sc₁ out₁) where
+module _ (l sc : List ℕ) (m : ℕ) (p : Ptr) (m₁ : ℕ) (sc₁ : List ℕ) (out₁ : course.Out) (first : Wrote l sc m (Ok (p, m₁)) sc₁ out₁) where
   first_grown : Grown sc m sc₁ m₁
   first_grown = first.grown p m₁ refl
 

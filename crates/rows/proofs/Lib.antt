@@ -1,3 +1,6 @@
+pub mod RefusalNumbers
+pub mod HandedOn
+pub mod Codes
 pub mod Parts
 pub mod Store
 pub mod NineKinds
@@ -11,7 +14,6 @@ pub mod InTurn
 pub mod DueRows
 pub mod Answers
 pub mod RowRules
-pub mod TidyWords
 pub mod RightRow
 pub mod KeptRows
 pub mod Determined

@@ -16,14 +16,13 @@ use Rattle.rows.proofs.Store.{nine_words, cell_stands}
 nine : (a : ℕ) → a + 9 - a ≡ 9
 nine a = omega arith
 
-pub read_library : (l sc : List ℕ) (n : ℕ) → 9 * n < length l → take (9 * n + 9 - 9 * n) (drop (9 * n) l) ≡ words_at l sc n
+pub read_library : (l sc : List ℕ) (n : ℕ) → 9 * n < length l → take 9 (drop (9 * n) l) ≡ words_at l sc n
 unfolding words_at
-read_library l sc n h = simp (lt-ltb _ _ h, nine)
+read_library l sc n h = simp (lt-ltb _ _ h)
 
-pub read_scratch : (l sc : List ℕ) (n : ℕ) → length l ≤ 9 * n →
-    take (9 * n - length l + 9 - (9 * n - length l)) (drop (9 * n - length l) sc) ≡ words_at l sc n
+pub read_scratch : (l sc : List ℕ) (n : ℕ) → length l ≤ 9 * n → take 9 (drop (9 * n - length l) sc) ≡ words_at l sc n
 unfolding words_at
-read_scratch l sc n h = simp (le-ltb _ _ h, nine)
+read_scratch l sc n h = simp (le-ltb _ _ h)
 
 -- a part that a lookup gave
 module _ (l sc : List ℕ) (n : ℕ) (stands : Stands l sc n) (ws : List ℕ) (read : ws ≡ words_at l sc n) where

@@ -1,12 +1,11 @@
 -- The nine kinds: a row's kind has the fields that the rules' table gives its number, and its bound and height follow from them.
 -- Assumes nothing.
-use Prim.Native.Nat.{ℕ, zero, suc, ◌≤◌, max}
+use Prim.Native.Nat.{ℕ, zero, suc, ◌≤◌, ◌<◌, max}
 use native.Mathlib.Omega.{arith}
 use mathlib.Core.Path.{◌≡◌, refl, ap}
 use Rattle.rules.specs.Kinds.{Tag, plain, term, body, table, fields}
 use Rattle.rules.specs.Rows.{Ptr, node, Store, cell, field_bound, field_height}
 use Rattle.rows.specs.Words.{kind_of, tags_at, tag_at, shown, row_by}
-use Rattle.rows.specs.Checks.{tag_code}
 
 -- what holds of each of the nine holds of every kind up to 8
 pub each_kind : (P : ℕ → Type 0) → P 0 → P 1 → P 2 → P 3 → P 4 → P 5 → P 6 → P 7 → P 8 → (k : ℕ) → k ≤ 8 → P k
@@ -20,6 +19,13 @@ each_kind P p0 p1 p2 p3 p4 p5 p6 p7 p8 (suc (suc (suc (suc (suc (suc zero)))))) 
 each_kind P p0 p1 p2 p3 p4 p5 p6 p7 p8 (suc (suc (suc (suc (suc (suc (suc zero))))))) h = p7
 each_kind P p0 p1 p2 p3 p4 p5 p6 p7 p8 (suc (suc (suc (suc (suc (suc (suc (suc zero)))))))) h = p8
 each_kind P p0 p1 p2 p3 p4 p5 p6 p7 p8 (suc (suc (suc (suc (suc (suc (suc (suc (suc k))))))))) h = absurd (omega arith)
+
+-- what holds of each of the three holds of every field
+pub each_field : (P : ℕ → Type 0) → P 0 → P 1 → P 2 → (j : ℕ) → j < 3 → P j
+each_field P p0 p1 p2 zero h = p0
+each_field P p0 p1 p2 (suc zero) h = p1
+each_field P p0 p1 p2 (suc (suc zero)) h = p2
+each_field P p0 p1 p2 (suc (suc (suc j))) h = absurd (omega arith)
 
 pub fields_are : (k : ℕ) (a b : Ptr) → k ≤ 8 → fields (kind_of k a b) ≡ tags_at k
 unfolding fields table kind_of tags_at
@@ -74,30 +80,13 @@ module _ (s : Store) (k : ℕ) (a b c : Ptr) (kind : suc k ≤ 8) where
   row_height = rw (fields_are (suc k) a b kind) (simp height_shown)
 
 pub term_not_plain : term ≡ plain → ⊥
-term_not_plain e = let z : ◌≡◌ {A = ℕ} 1 0 = ap tag_code e in omega arith
+term_not_plain e = cc
 
 pub body_not_plain : body ≡ plain → ⊥
-body_not_plain e = let z : ◌≡◌ {A = ℕ} 2 0 = ap tag_code e in omega arith
+body_not_plain e = cc
 
 -- a child's pair is shown as it stands
 pub child_shown : (t : Tag) (p : Ptr) → (t ≡ plain → ⊥) → shown t p ≡ p
 child_shown plain p f = absurd (f refl)
 child_shown term p f = refl
 child_shown body p f = refl
-
--- the table's marks, from the code's numbers for them
-
-pub code_plain : (t : Tag) → tag_code t ≡ 0 → t ≡ plain
-code_plain plain e = refl
-code_plain term e = absurd (omega arith)
-code_plain body e = absurd (omega arith)
-
-pub code_term : (t : Tag) → tag_code t ≡ 1 → t ≡ term
-code_term plain e = absurd (omega arith)
-code_term term e = refl
-code_term body e = absurd (omega arith)
-
-pub code_body : (t : Tag) → (tag_code t ≡ 0 → ⊥) → (tag_code t ≡ 1 → ⊥) → t ≡ body
-code_body plain f g = absurd (f refl)
-code_body term f g = absurd (g refl)
-code_body body f g = refl

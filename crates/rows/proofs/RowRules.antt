@@ -50,9 +50,13 @@ module _ (D k : ℕ) (a b c : Ptr) where
   unfolding row_by kind_of
   const_range e h = rw e (says_same (λ g. node_ranged (const_in h g)) (λ r. const_levels (in_range r)) (says_at_most a.shift 16))
 
-  pub const_unknown : k ≡ 2 → D ≤ a.row → Says (Ranged D (row_by k a b c)) false
+  pub const_unknown : k ≡ 2 → D ≤ a.row → Says (Ranged D (row_by k a b c)) (ltb a.row D)
   unfolding row_by kind_of
-  const_unknown e h = rw e (says_no (λ r. let g = const_names (in_range r) in omega arith))
+  const_unknown e h =
+      rw e (record {
+        yes = λ t. absurd (let g : a.row < D = (says_below a.row D).yes t in omega arith);
+        no = λ _ r. let g = const_names (in_range r) in omega arith;
+      })
 
   pub proj_range : k ≡ 7 → Says (Ranged D (row_by k a b c)) (ltb b.row D)
   unfolding row_by kind_of
@@ -99,17 +103,19 @@ module _ (s : Store) (n : ℕ) (t : Tag) (p : Ptr) where
       go term f (term_ok child) = child
       go body f (body_ok child) = child
 
-  -- the tests of a child: its row is lower, and where it is closed its shift is 0
-  module _ (child : t ≡ plain → ⊥) where
-    pub not_lower : n ≤ p.row → Says (FieldOk s n (shown t p) t) false
-    not_lower h = says_no (λ ok. let low = (ok_child ok child).lower in omega arith)
+  pub child_says : {b : Bool} → (t ≡ plain → ⊥) → Says (ChildOk s n p) b → Says (FieldOk s n (shown t p) t) b
+  child_says child says = says_same (λ ok. child_ok ok child) (λ ok. ok_child ok child) says
 
-    pub closed_child : p.row < n → (cell_at s p.row).bound ≡ 0 → Says (FieldOk s n (shown t p) t) (eqb p.shift 0)
-    closed_child low closed =
-        says_same (λ e. child_ok (record { lower = low; still = λ _. e }) child) (λ ok. (ok_child ok child).still closed) (says_equal p.shift 0)
+-- the tests of a child: its row is lower, and where it is closed its shift is 0
+module _ (s : Store) (n : ℕ) (p : Ptr) where
+  pub not_lower : n ≤ p.row → Says (ChildOk s n p) false
+  not_lower h = says_no (λ ok. let low = ok.lower in omega arith)
 
-    pub open_child : p.row < n → ((cell_at s p.row).bound ≡ 0 → ⊥) → Says (FieldOk s n (shown t p) t) true
-    open_child low loose = says_yes (child_ok (record { lower = low; still = λ e. absurd (loose e) }) child)
+  pub closed_child : p.row < n → (cell_at s p.row).bound ≡ 0 → Says (ChildOk s n p) (eqb p.shift 0)
+  closed_child low closed = says_same (λ e. record { lower = low; still = λ _. e }) (λ ok. ok.still closed) (says_equal p.shift 0)
+
+  pub open_child : p.row < n → ((cell_at s p.row).bound ≡ 0 → ⊥) → Says (ChildOk s n p) true
+  open_child low loose = says_yes (record { lower = low; still = λ e. absurd (loose e) })
 
 -- A ROW'S RULES ARE THOSE OF ITS PARTS
 

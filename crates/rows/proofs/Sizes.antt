@@ -37,6 +37,12 @@ module _ (s : Store) (t : Tag) (p : Ptr) (b h : ℕ) (is_bound : b ≡ bound s p
   unfolding field_bound field_height
   body_adds less l e = record { bound = rw e (l ∙ one_less b ∙ ap pred is_bound); height = rw e (sym is_height); word = word }
 
+-- the same, from what the child adds as a term
+pub inside_adds : (s : Store) (t : Tag) (p : Ptr) (z : Sizes) (less : ℕ) → FieldAdds s term p z → less ≡ z.bound - 1 → t ≡ body →
+    FieldAdds s t p (sizes less z.height)
+unfolding field_bound field_height
+inside_adds s t p z less adds l e = body_adds s t p z.bound z.height adds.bound (sym adds.height) adds.word less l e
+
 -- WHAT A ROW HAS
 
 pub var_sizes : (s : Store) (k : ℕ) (a b c : Ptr) → k ≡ 0 → sizes (a.row + 1) 1 ≡ sizes_of (cell s (row_by k a b c))

@@ -92,6 +92,10 @@ store_same l sc sc' m e = ap (λ (s : Store). rows_of (length l / 9) l ++ s) (ro
 
 -- A ROW THAT STANDS
 
+-- a lower row stands too
+pub lower_stands : {l sc : List ℕ} {n r : ℕ} → Stands l sc n → r < n → Stands l sc r
+lower_stands stands h = record { whole_library = stands.whole_library; whole_scratch = stands.whole_scratch; there = let there = stands.there in omega arith }
+
 module _ (l sc : List ℕ) (n : ℕ) (stands : Stands l sc n) where
   rows_in_library : length l ≡ 9 * (length l / 9)
   rows_in_library = omega arith

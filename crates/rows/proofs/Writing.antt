@@ -4,10 +4,10 @@ use Prim.Native.Nat.{ℕ, ◌+◌, ◌*◌, ◌-◌, ◌/◌, ◌≤◌, ◌<◌
 use native.Mathlib.Omega.{arith}
 use native.Mathlib.Numerals.{add-one}
 use mathlib.Core.Path.{◌≡◌, refl, sym, ap, ap₂, subst, ◌∙◌}
-use mathlib.Core.List.{List, [], ◌∷◌, ◌++◌, append-nil}
-use borrow.Rule.Slice.PartMut.{mid_of, put_mid}
-use lib.ListN.{length, set, take, drop, length-append, length-drop, drop_of_length-le}
-use lib.Seq.{take_all, take_at, drop_at, drop-drop, length-take-le}
+use mathlib.Core.List.{List, [], ◌∷◌, ◌++◌}
+use borrow.Rule.Slice.PartMut.{put_mid}
+use lib.ListN.{length, take, drop, length-append, length-drop}
+use lib.Seq.{take_at, drop_at, drop-drop, length-take-le}
 use Rattle.rules.specs.Rows as rules
 use Rattle.rules.specs.Rows.{Row, Cell, Store, got, put, cell}
 use Rattle.rules.specs.RowCheck.{Fits}
@@ -18,39 +18,26 @@ use Rattle.course.specs.Charged as course
 use Rattle.course.specs.Charged.{put_on, put_in}
 use Rattle.rows.specs.declared.Ptr.{Ptr}
 use Rattle.rows.specs.declared.Shape.{Shape}
-use Rattle.rows.specs.declared.Out.{Out}
-use Rattle.rows.specs.declared.Out.TheVariants.{Done, Refused}
+use Rattle.rows.specs.declared.refusals.Refusal.{Refusal}
+use Rattle.rows.specs.declared.refusals.Refusal.TheVariants.{NoFreeRow, NoSize}
+use Rattle.rows.specs.Refusals.{Out, number_of}
+use Rattle.std.specs.Prelude.{Ok, Err}
 use Rattle.rows.specs.declared.kinds.Sizes.{Sizes}
 use Rattle.rows.specs.Words.{ptr_of, row_of, decode, words_of, store_of, whole, Children, Held}
 use Rattle.rows.specs.Checks.{Formed, Within, sizes_of}
 use Rattle.rows.specs.Writes.{Grown, Wrote, Due, Pushed, too_large, none_free, at_mark}
-use Rattle.rows.proofs.Parts.{front_nine}
+use Rattle.rows.proofs.RefusalNumbers.{same_mark}
 use Rattle.rows.proofs.Store.{used_stands, cell_used, held_length, store_same, store_suc}
 use Rattle.rows.proofs.Formed.{formed_row}
 use Rattle.rows.proofs.Agree.{cell_row, row_agree}
 
 -- WORDS
 
--- nine stores at the front, one after the other
-abbrev pub stored : Shape → ℕ → ℕ → List ℕ → List ℕ
-stored w b h xs =
-    let pair₁ = set (set (set xs 0 w.kind) 1 w.first.row) 2 w.first.shift in
-    let pair₂ = set (set pair₁ 3 w.second.row) 4 w.second.shift in
-    let pair₃ = set (set pair₂ 5 w.third.row) 6 w.third.shift in
-    set (set pair₃ 7 b) 8 h
-
-pub filled : (w : Shape) (b h : ℕ) (xs : List ℕ) → 9 ≤ length xs → stored w b h xs ≡ words_of w b h ++ drop 9 xs
-filled w b h xs l =
-    front_nine (λ (ys : List ℕ). stored w b h ys ≡ words_of w b h ++ drop 9 ys) (λ _ _ _ _ _ _ _ _ _ rest. refl) xs l
-
--- a list with its end from `at` on rewritten at the front
-pub pasted : (xs ws ys : List ℕ) (at : ℕ) → at ≤ length xs → ys ≡ ws ++ drop 9 (mid_of at (length xs - at) xs) →
-    put_mid at (length xs - at) xs ys ≡ take at xs ++ (ws ++ drop (at + 9) xs)
-pasted xs ws ys at h e =
-    let end : length (drop at xs) ≤ length xs - at = simp length-drop (omega arith) in
-    let rest : mid_of at (length xs - at) xs ≡ drop at xs = take_all (length xs - at) (drop at xs) end in
-    let none : drop (length xs - at) (drop at xs) ≡ [] = drop_of_length-le (drop at xs) end in
-    rw (e, rest, none, drop-drop, append-nil)
+-- a list with nine words from `at` on replaced
+pub pasted : (xs ws ys : List ℕ) (at : ℕ) → ys ≡ ws → put_mid at (at + 9 - at) xs ys ≡ take at xs ++ (ws ++ drop (at + 9) xs)
+pasted xs ws ys at e =
+    let nine : at + 9 - at ≡ 9 = omega arith in
+    rw (e, nine, drop-drop) refl
 
 -- what stands in a list of words after nine of them are written at mark m
 module _ (sc ws sc' : List ℕ) (m : ℕ) (nine : length ws ≡ 9) (room : 9 * m + 9 ≤ length sc)
@@ -127,7 +114,7 @@ module _ (l sc : List ℕ) (nlib m : ℕ) (w : Shape) (held : Held l sc m nlib) 
   abbrev answer : course.Out
   answer = put_in (nlib + length sc / 9) (store_of l sc m) (row_of w)
 
-  refused_wrote : (k : ℕ) → answer ≡ course.refused k → Wrote l sc m (Refused k) sc answer
+  refused_wrote : (k : Refusal) → answer ≡ course.refused (number_of k) → Wrote l sc m (Err k) sc answer
   refused_wrote k e = record { says = sym e; kept = refl; same_length = refl; grown = λ p m' d. absurd (let z : ◌≡◌ {A = ℕ} 0 1 = cc in omega arith) }
 
   module _ (z : Sizes) (size : z ≡ sizes_of (cell (whole l sc) (row_of w))) (word : w.first.row < 4294967296) where
@@ -182,18 +169,18 @@ module _ (l sc : List ℕ) (nlib m : ℕ) (w : Shape) (held : Held l sc m nlib) 
             subst (λ (j : ℕ). IsRow (part 9 sc' j) (decode (part 9 sc' j))) here is_row;
       }
 
-      done_wrote : Fits (cell (store_of l sc m) (row_of w)) → Wrote l sc m (Done p (m + 1)) sc' answer
+      done_wrote : Fits (cell (store_of l sc m) (row_of w)) → Wrote l sc m (Ok (p, m + 1)) sc' answer
       done_wrote f = record {
         says =
             ap₂ (λ (s : Store) (q : rules.Ptr). course.wrote (got s q)) store_written place
             ∙ sym (put_done (nlib + length sc / 9) (store_of l sc m) (row_of w) f (let many = held_length l sc m nlib held in omega arith));
         kept = keeps;
         same_length = write_length sc (words_of w z.bound z.height) sc' m refl room written;
-        grown = λ q m' e. subst (λ (n : ℕ). Grown sc m sc' n) (let z : m + 1 ≡ m' = cc in z) one_row;
+        grown = λ q m' e. subst (λ (n : ℕ). Grown sc m sc' n) (same_mark e) one_row;
       }
 
     pub pushed_wrote : {r : Out} {sc' : List ℕ} → Pushed sc nlib m w z r sc' → Wrote l sc m r sc' answer
-    pushed_wrote (too_large f) = refused_wrote 8 (put_large _ _ _ (large f))
+    pushed_wrote (too_large f) = refused_wrote NoSize (put_large _ _ _ (large f))
     pushed_wrote (none_free h none) =
-        refused_wrote 5 (put_full _ _ _ (small h) (let many = held_length l sc m nlib held in omega arith))
+        refused_wrote NoFreeRow (put_full _ _ _ (small h) (let many = held_length l sc m nlib held in omega arith))
     pushed_wrote (at_mark {p} {sc'} h room at written) = done_wrote p sc' room at written (small h)

@@ -1,21 +1,16 @@
 -- The table's numbers, the words that a kind uses, and what the row check says. Assumes nothing: these are definitions.
-use Rattle.std.specs.Prelude.{ℕ, ◌+◌, ◌*◌, ◌≤◌, ◌<◌, ◌≡◌, Bool, true, false, List, [], ◌∷◌, ◌++◌, get_or, take}
+use Rattle.std.specs.Prelude.{ℕ, ◌+◌, ◌*◌, ◌≤◌, ◌<◌, ◌≡◌, Bool, true, false, List, [], ◌∷◌, ◌++◌, get_or, take, Result, Ok, Err, ⊤}
 use Rattle.rules.specs.Maxima.{most_index, most_bound, most_height}
-use Rattle.rules.specs.Kinds.{Kind, Tag, plain, term, body}
+use Rattle.rules.specs.Kinds.{Kind, Tag}
 use Rattle.rules.specs.Rows.{Ptr, Row, var, node, Cell, Store, cell, field_bound, field_height}
 use Rattle.rules.specs.RowCheck.{InRange, Fits, Passes}
 use Rattle.rules.specs.Accepted.{IsRow, Keep, Lowest}
 use Rattle.rows.specs.declared.Shape.{Shape}
 use Rattle.rows.specs.declared.kinds.Sizes.{Sizes}
-use Rattle.rows.specs.declared.row_check.Checked.{Checked}
-use Rattle.rows.specs.declared.row_check.Checked.TheVariants.{AllPass, Broken}
+use Rattle.rows.specs.declared.refusals.Refused.{Refused}
+use Rattle.rows.specs.declared.refusals.Refusal.TheVariants as refusal
+use Rattle.rows.specs.Refusals.{refused_at}
 use Rattle.rows.specs.Words.{decode, store_of, whole, words_at}
-
--- the marks of the code's table: 0 a plain word, 1 a term, 2 a body under the binder
-abbrev pub tag_code : Tag → ℕ
-tag_code plain = 0
-tag_code term = 1
-tag_code body = 2
 
 -- how many of a row's six words between kind and bound a kind uses, from the first on
 unfoldable pub used : ℕ → ℕ
@@ -69,7 +64,7 @@ pub record Right (D : ℕ) (l sc : List ℕ) (n : ℕ) : Type 0 where
   pub is_row : IsRow (words_at l sc n) (decode (words_at l sc n))
   pub passes : Passes D (whole l sc) n
 
--- the row check's answer: all rows pass, or the lowest that does not
-pub data CheckSays (D : ℕ) (l sc : List ℕ) (m nlib : ℕ) : Checked → Type 0 where
-  all_pass : Keep 9 (l ++ take (9 * m) sc) IsRow (Passes D) (nlib + m) (store_of l sc m) → CheckSays D l sc m nlib AllPass
-  broken : {j : ℕ} → Lowest 9 (l ++ take (9 * m) sc) IsRow (Passes D) (nlib + m) j → CheckSays D l sc m nlib (Broken j)
+-- the row check's answer: all rows pass, or refusal 2 at the lowest that does not
+pub data CheckSays (D : ℕ) (l sc : List ℕ) (m nlib : ℕ) : Result ⊤ Refused → Type 0 where
+  all_pass : Keep 9 (l ++ take (9 * m) sc) IsRow (Passes D) (nlib + m) (store_of l sc m) → CheckSays D l sc m nlib (Ok tt)
+  broken : {j : ℕ} → Lowest 9 (l ++ take (9 * m) sc) IsRow (Passes D) (nlib + m) j → CheckSays D l sc m nlib (Err (refused_at refusal.Row j))

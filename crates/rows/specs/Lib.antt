@@ -1,3 +1,5 @@
 pub mod Words
+pub mod Refusals
+pub mod Kinds
 pub mod Writes
 pub mod Checks

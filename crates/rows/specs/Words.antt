@@ -66,6 +66,9 @@ row_by (suc k) a b c =
 abbrev pub row_of : Shape → Row
 row_of w = row_by w.kind (ptr_of w.first) (ptr_of w.second) (ptr_of w.third)
 
+abbrev pub pair : ℕ → ℕ → Ptr
+pair row shift = record { row = row; shift = shift }
+
 -- a row whose plain words are all in the first pair
 abbrev pub leaf_shape : ℕ → Ptr → Shape
 leaf_shape k p =

@@ -8,16 +8,17 @@ use Rattle.course.specs.Charged as course
 use Rattle.course.specs.Charged.{put_in}
 use Rattle.rows.specs.declared.Ptr.{Ptr}
 use Rattle.rows.specs.declared.Shape.{Shape}
-use Rattle.rows.specs.declared.Out.{Out}
-use Rattle.rows.specs.declared.Out.TheVariants.{Done, Refused}
+use Rattle.rows.specs.Refusals.{Out, number_of}
+use Rattle.rows.specs.declared.refusals.Refusal.TheVariants.{NoFreeRow, NoSize}
+use Rattle.std.specs.Prelude.{Ok, Err}
 use Rattle.rows.specs.declared.kinds.Sizes.{Sizes}
 use Rattle.rows.specs.Words.{ite, ptr_of, tag_at, decode, words_of, words_at, store_of}
 use Rattle.rows.specs.Checks.{Tidy, Within}
 
 -- an answer, with the words that were left, as the course's
 abbrev pub out_of : Out → List ℕ → List ℕ → course.Out
-out_of (Done p m) l sc = course.wrote (got (store_of l sc m) (ptr_of p))
-out_of (Refused k) l sc = course.refused k
+out_of (Ok (p, m)) l sc = course.wrote (got (store_of l sc m) (ptr_of p))
+out_of (Err k) l sc = course.refused (number_of k)
 
 -- "A row with level over 255 gives 10 before 8"
 abbrev pub sort_in : ℕ → Store → ℕ → course.Out
@@ -39,7 +40,7 @@ pub record Wrote (l sc : List ℕ) (m : ℕ) (r : Out) (sc' : List ℕ) (out : c
   pub says : out_of r l sc' ≡ out
   pub kept : take (9 * m) sc' ≡ take (9 * m) sc
   pub same_length : length sc' ≡ length sc
-  pub grown : (p : Ptr) (m' : ℕ) → r ≡ Done p m' → Grown sc m sc' m'
+  pub grown : (p : Ptr) (m' : ℕ) → r ≡ Ok (p, m') → Grown sc m sc' m'
 
 -- a kind and three pairs that may be written where n rows stand: children are there, and words that the kind does not use are 0
 pub record Due (n : ℕ) (w : Shape) : Type 0 where
@@ -51,7 +52,7 @@ pub record Due (n : ℕ) (w : Shape) : Type 0 where
 
 -- the row writer's own promise, on words: 8, 5, or the nine words at the mark
 pub data Pushed (sc : List ℕ) (nlib m : ℕ) (w : Shape) (z : Sizes) : Out → List ℕ → Type 0 where
-  too_large : (Within z → ⊥) → Pushed sc nlib m w z (Refused 8) sc
-  none_free : Within z → length sc < 9 * m + 9 → Pushed sc nlib m w z (Refused 5) sc
+  too_large : (Within z → ⊥) → Pushed sc nlib m w z (Err NoSize) sc
+  none_free : Within z → length sc < 9 * m + 9 → Pushed sc nlib m w z (Err NoFreeRow) sc
   at_mark : {p : Ptr} {sc' : List ℕ} → Within z → 9 * m + 9 ≤ length sc → p ≡ record { row = nlib + m; shift = 0 } →
-      sc' ≡ take (9 * m) sc ++ (words_of w z.bound z.height ++ drop (9 * m + 9) sc) → Pushed sc nlib m w z (Done p (m + 1)) sc'
+      sc' ≡ take (9 * m) sc ++ (words_of w z.bound z.height ++ drop (9 * m + 9) sc) → Pushed sc nlib m w z (Ok (p, m + 1)) sc'

@@ -2,22 +2,24 @@
 // Scratch rows are numbered after library rows; a row is read where it stands.
 #![tactic(auto)]
 
-ghost use Rattle.std.specs.Prelude.{◌≡◌, ◌+◌, ◌<◌, length, get_or};
+ghost use Rattle.std.specs.Prelude.{◌≡◌, ◌+◌, ◌<◌, ◌≤◌, length, get_or, take, drop};
 ghost use Rattle.rules.specs.Rows.{bound, up};
 ghost use Rattle.rows.specs.Words.{ptr_of, pair_at, shape_at, words_at, whole, Stands};
 
 pub mod kinds;
+pub mod refusals;
 pub mod row_check;
 pub mod writer;
 
-#[derive(Clone, Copy)]
+// Document 01: row number and shift by value, rows in lent slices. So a row is named by its number.
+#[derive(Clone, Copy, Debug, PartialEq, Eq)]
 pub struct Ptr {
     pub row: u32,
     pub shift: u32,
 }
 
-// A row's kind and its three pairs.
-#[derive(Clone, Copy)]
+// A row's kind and its three pairs. The kind is the word as it stands: any nine words have a shape, and `Kind` tells which of them are a row.
+#[derive(Clone, Copy, Debug, PartialEq, Eq)]
 pub struct Shape {
     pub kind: u32,
     pub first: Ptr,
@@ -25,38 +27,36 @@ pub struct Shape {
     pub third: Ptr,
 }
 
-// The answer of whatever writes rows: a pointer and the new mark, or the refusal's number.
-#[derive(Clone, Copy)]
-pub enum Out {
-    Done(Ptr, u32),
-    Refused(u32),
+// The record of N words at a place, where it stands.
+pub fn record_at<const N: usize>(words: &[u32], at: usize) -> &[u32; N]
+    requires { at + N ≤ length words.now }
+    ensures { result.now ≡ take N (drop at words.now) }
+{
+    words[at..at + N].try_into().unwrap()
 }
 
-// The nine words of row n, where it stands.
-pub fn row_at<'a>(library: &'a [u32], scratch: &'a [u32], n: u32) -> &'a [u32]
+// The nine words of row n, where it stands. Document 01: row lookup takes both lent slices, so they go down as two parameters.
+pub fn row_at<'a>(library: &'a [u32], scratch: &'a [u32], n: u32) -> &'a [u32; 9]
     requires { Stands library.now scratch.now n }
     ensures { result.now ≡ words_at library.now scratch.now n }
 {
     let at = 9 * (n as usize);
     if at < library.len() {
-        &library[at..at + 9]
+        record_at(library, at)
     } else {
-        let from = at - library.len();
-        &scratch[from..from + 9]
+        record_at(scratch, at - library.len())
     }
 }
 
-pub fn kind_of(row: &[u32]) -> u32
-    requires { length row.now ≡ 9 }
+pub fn kind_of(row: &[u32; 9]) -> u32
     ensures { result ≡ get_or row.now 0 0 }
 {
     row[0]
 }
 
 // The pair of field j.
-pub fn pair_of(row: &[u32], j: usize) -> Ptr
-    requires row_len { length row.now ≡ 9 }
-    requires j_bound { j < 3 }
+pub fn pair_of(row: &[u32; 9], j: usize) -> Ptr
+    requires { j < 3 }
     ensures { result ≡ pair_at row.now j }
 {
     Ptr {
@@ -65,22 +65,19 @@ pub fn pair_of(row: &[u32], j: usize) -> Ptr
     }
 }
 
-pub fn bound_of(row: &[u32]) -> u32
-    requires { length row.now ≡ 9 }
+pub fn bound_of(row: &[u32; 9]) -> u32
     ensures { result ≡ get_or row.now 7 0 }
 {
     row[7]
 }
 
-pub fn height_of(row: &[u32]) -> u32
-    requires { length row.now ≡ 9 }
+pub fn height_of(row: &[u32; 9]) -> u32
     ensures { result ≡ get_or row.now 8 0 }
 {
     row[8]
 }
 
-pub fn shape_of(row: &[u32]) -> Shape
-    requires { length row.now ≡ 9 }
+pub fn shape_of(row: &[u32; 9]) -> Shape
     ensures { result ≡ shape_at row.now }
 {
     Shape {
@@ -91,7 +88,8 @@ pub fn shape_of(row: &[u32]) -> Shape
     }
 }
 
-// 0 for a closed row, else row bound plus shift: 64 bits, since a shift that no check has seen is any u32.
+// 0 for a closed row, else row bound plus shift: 64 bits, since a shift that no check has seen is any u32. `as` widens, so that each
+// contract above reads the sum, without a law of `from` for each term.
 pub fn ptr_bound<'a>(library: &'a [u32], scratch: &'a [u32], p: Ptr) -> u64
     requires { Stands library.now scratch.now p.row }
     ensures { result ≡ bound (whole library.now scratch.now) (ptr_of p) }

@@ -2,51 +2,34 @@
 // which the rows below have shown right.
 ghost use Rattle.std.specs.Prelude.{◌≡◌, ◌+◌, ◌<◌, ◌≤◌};
 ghost use Rattle.rules.specs.Rows.{cell_at};
-ghost use Rattle.rules.specs.RowCheck.{FieldOk, RowOk};
+ghost use Rattle.rules.specs.RowCheck.{ChildOk, FieldOk, RowOk};
 ghost use Rattle.rows.specs.Words.{ptr_of, row_of, shape_at, shown, tag_at, words_at, whole, Stands, Children, Held};
 ghost use Rattle.rows.specs.Checks.{Formed, Ranged, Sized, Says, Right, CheckSays};
 
-use super::kinds::{PLAIN, field_tag, sizes_of, used_words, within};
+use super::kinds::{Kind, Tag, field_tag, sizes_of, used_words, within};
+use super::refusals::{Refusal, Refused};
 use super::{Ptr, Shape, bound_of, height_of, row_at, shape_of};
-
-#[derive(Clone, Copy)]
-pub enum Checked {
-    AllPass,
-    Broken(u32),
-}
 
 // A word past those that a kind uses is 0.
 fn idle(used: u8, at: u8, word: u32) -> bool
     ensures { Says (used < at → word ≡ 0) result }
 {
-    if used < at {
-        return word == 0;
-    }
-    true
+    at <= used || word == 0
 }
 
-// The kind is one of the nine, and the words that it does not use are 0.
+// The kind is one of the nine, and the words that it does not use are 0. It is read as a word, since any may stand there.
 fn formed(w: Shape) -> bool
     ensures { Says (Formed w) result }
 {
-    let kind = w.kind;
-    if 8 < kind {
+    if 8 < w.kind {
         return false;
     }
-    let used = used_words(kind);
-    if !idle(used, 2, w.first.shift) {
-        return false;
-    }
-    if !idle(used, 3, w.second.row) {
-        return false;
-    }
-    if !idle(used, 4, w.second.shift) {
-        return false;
-    }
-    if !idle(used, 5, w.third.row) {
-        return false;
-    }
-    idle(used, 6, w.third.shift)
+    let used = used_words(w.kind);
+    idle(used, 2, w.first.shift)
+        && idle(used, 3, w.second.row)
+        && idle(used, 4, w.second.shift)
+        && idle(used, 5, w.third.row)
+        && idle(used, 6, w.third.shift)
 }
 
 // A variable's index, a sort's level, a declaration's number and a count of levels are in range.
@@ -54,36 +37,20 @@ fn in_range(w: Shape, declarations: u32) -> bool
     requires { w.kind ≤ 8 }
     ensures { Says (Ranged declarations (row_of w)) result }
 {
-    let kind = w.kind;
-    let a = w.first;
-    let b = w.second;
-    if kind == 0 {
-        return a.row <= 4095;
+    match Kind::known(w.kind) {
+        Kind::Variable => w.first.row <= 4095,
+        Kind::Sort => w.first.row <= 255,
+        Kind::Constant => w.first.row < declarations && w.first.shift <= 16,
+        Kind::Projection => w.second.row < declarations,
+        _ => true,
     }
-    if kind == 1 {
-        return a.row <= 255;
-    }
-    if kind == 2 {
-        if a.row < declarations {
-            return a.shift <= 16;
-        }
-        return false;
-    }
-    if kind == 7 {
-        return b.row < declarations;
-    }
-    true
 }
 
-// A child's row is lower, and a closed child's shift is 0; plain words are no child.
-fn field_ok<'a>(library: &'a [u32], scratch: &'a [u32], n: u32, kind: u32, j: u32, p: Ptr) -> bool
-    requires kind_bound { (kind ≤ 8) × (j < 3) }
-    requires stands { Stands library.now scratch.now n }
-    ensures { Says (FieldOk (whole library.now scratch.now) n (shown (tag_at kind j) (ptr_of p)) (tag_at kind j)) result }
+// A child's row is lower, and a closed child's shift is 0.
+fn child_ok<'a>(library: &'a [u32], scratch: &'a [u32], n: u32, p: Ptr) -> bool
+    requires { Stands library.now scratch.now n }
+    ensures { Says (ChildOk (whole library.now scratch.now) n (ptr_of p)) result }
 {
-    if field_tag(kind, j) == PLAIN {
-        return true;
-    }
     if n <= p.row {
         return false;
     }
@@ -94,7 +61,20 @@ fn field_ok<'a>(library: &'a [u32], scratch: &'a [u32], n: u32, kind: u32, j: u3
     true
 }
 
-// Plain words in range, and each field as the table marks it.
+// Plain words are no child.
+fn field_ok<'a>(library: &'a [u32], scratch: &'a [u32], n: u32, kind: u32, j: u32, p: Ptr) -> bool
+    requires kind_bound { (kind ≤ 8) × (j < 3) }
+    requires stands { Stands library.now scratch.now n }
+    ensures { Says (FieldOk (whole library.now scratch.now) n (shown (tag_at kind j) (ptr_of p)) (tag_at kind j)) result }
+{
+    match field_tag(kind, j) {
+        Tag::Plain => true,
+        _ => child_ok(library, scratch, n, p),
+    }
+}
+
+// Plain words in range, and each field as the table marks it. Here and below one test returns before the next: in a chain of three the proof
+// would have to take the joined tests apart again.
 fn fields_ok<'a>(
     library: &'a [u32],
     scratch: &'a [u32],
@@ -127,10 +107,10 @@ fn sized<'a>(library: &'a [u32], scratch: &'a [u32], n: u32) -> bool
 {
     let row = row_at(library, scratch, n);
     let size = sizes_of(library, scratch, shape_of(row));
-    if size.bound != (bound_of(row) as u64) {
+    if size.bound != u64::from(bound_of(row)) {
         return false;
     }
-    if size.height != (height_of(row) as u64) {
+    if size.height != u64::from(height_of(row)) {
         return false;
     }
     within(size)
@@ -150,23 +130,21 @@ fn row_passes<'a>(library: &'a [u32], scratch: &'a [u32], declarations: u32, n: 
     sized(library, scratch, n)
 }
 
-// The row check over library rows and scratch rows below the mark.
+// The row check over library rows and scratch rows below the mark: refusal 2 at the lowest row that breaks a rule.
 pub fn check_rows<'a>(
     library: &'a [u32],
     scratch: &'a [u32],
     nlib: u32,
     mark: u32,
     declarations: u32,
-) -> Checked
+) -> Result<(), Refused>
     requires { Held library.now scratch.now mark nlib }
     ensures { CheckSays declarations library.now scratch.now mark nlib result }
 {
-    let mut n = 0;
-    while n < nlib + mark {
+    for n in 0..nlib + mark {
         if !row_passes(library, scratch, declarations, n) {
-            return Checked::Broken(n);
+            return Err(Refusal::Row.at(n));
         }
-        n += 1;
     }
-    Checked::AllPass
+    Ok(())
 }

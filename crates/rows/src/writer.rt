@@ -4,26 +4,29 @@ ghost use Rattle.rules.specs.Kinds.{const, num};
 ghost use Rattle.rules.specs.Rows.{var, leaf};
 ghost use Rattle.rules.specs.Arithmetic.{words_value};
 ghost use Rattle.course.specs.Charged.{put_in};
-ghost use Rattle.rows.specs.Words.{row_of, leaf_shape, words_of, store_of, Held};
+ghost use Rattle.rows.specs.Words.{row_of, leaf_shape, pair, words_of, store_of, Held};
+ghost use Rattle.rows.specs.Kinds.{code_of};
 ghost use Rattle.rows.specs.Writes.{sort_in, Wrote, Due, Pushed};
 
-use super::kinds::{Sizes, sizes_of, within};
-use super::{Out, Ptr, Shape};
+use super::kinds::{Kind, Sizes, sizes_of, within};
+use super::refusals::{Out, Refusal};
+use super::{Ptr, Shape};
 
-// The nine words at the front of a part.
-fn fill(part: &mut [u32], w: Shape, bound: u32, height: u32)
-    requires { 9 ≤ length part.old }
-    ensures { part.new ≡ words_of w bound height ++ drop 9 part.old }
+// A kind, three pairs, bound and height as a row's nine words.
+fn nine_words(w: Shape, bound: u32, height: u32) -> [u32; 9]
+    ensures { result ≡ words_of w bound height }
 {
-    part[0] = w.kind;
-    part[1] = w.first.row;
-    part[2] = w.first.shift;
-    part[3] = w.second.row;
-    part[4] = w.second.shift;
-    part[5] = w.third.row;
-    part[6] = w.third.shift;
-    part[7] = bound;
-    part[8] = height;
+    [
+        w.kind,
+        w.first.row,
+        w.first.shift,
+        w.second.row,
+        w.second.shift,
+        w.third.row,
+        w.third.shift,
+        bound,
+        height,
+    ]
 }
 
 // 8 before 5.
@@ -35,19 +38,17 @@ fn push(scratch: &mut [u32], nlib: u32, mark: u32, w: Shape, size: Sizes) -> Out
     let end = at + 9;
     let small = within(size);
     if !small {
-        return Out::Refused(8);
+        return Err(Refusal::NoSize);
     }
     if scratch.len() < end {
-        return Out::Refused(5);
+        return Err(Refusal::NoFreeRow);
     }
-    fill(&mut scratch[at..], w, size.bound as u32, size.height as u32);
-    Out::Done(
-        Ptr {
-            row: nlib + mark,
-            shift: 0,
-        },
-        mark + 1,
-    )
+    scratch[at..end].copy_from_slice(&nine_words(w, size.bound as u32, size.height as u32));
+    let written = Ptr {
+        row: nlib + mark,
+        shift: 0,
+    };
+    Ok((written, mark + 1))
 }
 
 // The row of a kind and three pairs is due.
@@ -57,8 +58,7 @@ pub fn make(library: &[u32], scratch: &mut [u32], nlib: u32, mark: u32, w: Shape
     ensures { Wrote library.now scratch.old mark result scratch.new (put_in
         (nlib + length scratch.old / 9) (store_of library.now scratch.old mark) (row_of w)) }
 {
-    let size = sizes_of(library, &scratch[..], w);
-    push(scratch, nlib, mark, w, size)
+    push(scratch, nlib, mark, w, sizes_of(library, scratch, w))
 }
 
 // A row with no children is due: its first pair has its plain words.
@@ -67,18 +67,19 @@ fn make_leaf(
     scratch: &mut [u32],
     nlib: u32,
     mark: u32,
-    kind: u32,
-    words: Ptr,
+    kind: Kind,
+    row: u32,
+    shift: u32,
 ) -> Out
     requires held { Held library.now scratch.old mark nlib }
-    requires due { Due (nlib + mark) (leaf_shape kind words) }
+    requires due { Due (nlib + mark) (leaf_shape (code_of kind) (pair row shift)) }
     ensures { Wrote library.now scratch.old mark result scratch.new (put_in
-        (nlib + length scratch.old / 9) (store_of library.now scratch.old mark) (row_of (leaf_shape kind words))) }
+        (nlib + length scratch.old / 9) (store_of library.now scratch.old mark) (row_of (leaf_shape (code_of kind) (pair row shift)))) }
 {
     let none = Ptr { row: 0, shift: 0 };
     let w = Shape {
-        kind,
-        first: words,
+        kind: kind.into(),
+        first: Ptr { row, shift },
         second: none,
         third: none,
     };
@@ -90,17 +91,7 @@ pub fn make_var(library: &[u32], scratch: &mut [u32], nlib: u32, mark: u32, inde
     ensures { Wrote library.now scratch.old mark result scratch.new (put_in
         (nlib + length scratch.old / 9) (store_of library.now scratch.old mark) (var index)) }
 {
-    make_leaf(
-        library,
-        scratch,
-        nlib,
-        mark,
-        0,
-        Ptr {
-            row: index,
-            shift: 0,
-        },
-    )
+    make_leaf(library, scratch, nlib, mark, Kind::Variable, index, 0)
 }
 
 // "A row with level over 255 gives 10 before 8."
@@ -110,19 +101,9 @@ pub fn make_sort(library: &[u32], scratch: &mut [u32], nlib: u32, mark: u32, lev
         (nlib + length scratch.old / 9) (store_of library.now scratch.old mark) level) }
 {
     if 255 < level {
-        return Out::Refused(10);
+        return Err(Refusal::SortLevel);
     }
-    make_leaf(
-        library,
-        scratch,
-        nlib,
-        mark,
-        1,
-        Ptr {
-            row: level,
-            shift: 0,
-        },
-    )
+    make_leaf(library, scratch, nlib, mark, Kind::Sort, level, 0)
 }
 
 pub fn make_const(
@@ -142,11 +123,9 @@ pub fn make_const(
         scratch,
         nlib,
         mark,
-        2,
-        Ptr {
-            row: declaration,
-            shift: levels,
-        },
+        Kind::Constant,
+        declaration,
+        levels,
     )
 }
 
@@ -163,15 +142,5 @@ pub fn make_number(
     ensures { Wrote library.now scratch.old mark result scratch.new (put_in
         (nlib + length scratch.old / 9) (store_of library.now scratch.old mark) (leaf (num (words_value low high)))) }
 {
-    make_leaf(
-        library,
-        scratch,
-        nlib,
-        mark,
-        8,
-        Ptr {
-            row: low,
-            shift: high,
-        },
-    )
+    make_leaf(library, scratch, nlib, mark, Kind::Number, low, high)
 }

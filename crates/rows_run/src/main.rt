@@ -2,8 +2,12 @@
 // The file stdout has what document 01 says of each case: answers.py makes it, without this program.
 #![tactic(auto)]
 
-use rows::row_check::Checked;
-use rows::{Out, Ptr, Shape};
+ghost use Rattle.std.specs.Prelude.{◌+◌, ◌≤◌};
+ghost use Rattle.rows.specs.Writes.{Due};
+
+use rows::kinds::Kind;
+use rows::refusals::{Out, Refused};
+use rows::{Ptr, Shape};
 use std::io;
 
 const LIBRARY_ROWS: u32 = 6;
@@ -20,141 +24,138 @@ const SCRATCH: [u32; 54] = [
     0, 0, 0, 4096, 1, 7, 7, 7, 7, 7, 7, 7, 7, 7, 7, 7, 7, 7, 7, 7, 7, 7, 7,
 ];
 
-fn write_number(rt: &impl Print, n: u32) -> io::Result<()> {
-    print!(rt; " {n}")
+// What a word is changed to.
+const VALUES: [u32; 7] = [0, 1, 2, 9, 256, 4096, 4294967295];
+
+// A row with plain words alone. Nothing compares or prints it.
+#[derive(Clone, Copy)]
+enum Leaf {
+    Variable(u32),
+    Sort(u32),
+    Constant(u32, u32),
+    Number(u32, u32),
 }
 
+// The spine's program has this too: a crate for the three lines would be no plainer.
 fn write_pointer(rt: &impl Print, p: Ptr) -> io::Result<()> {
-    write_number(rt, p.row)?;
-    write_number(rt, p.shift)
+    print!(rt; " {} {}", p.row, p.shift)
 }
 
-fn end_line(rt: &impl Print) -> io::Result<()> {
+// The words from a place on, and the line's end.
+fn write_words(rt: &impl Print, words: &[u32], from: usize) -> io::Result<()> {
+    for word in words.iter().skip(from) {
+        print!(rt; " {word}")?;
+    }
     println!(rt)
 }
 
-// The words from a place on.
-fn write_words(rt: &impl Print, words: &[u32], from: usize) -> io::Result<()> {
-    for word in words.iter().skip(from) {
-        write_number(rt, *word)?;
-    }
-    end_line(rt)
-}
-
-fn write_checked(rt: &impl Print, answer: Checked) -> io::Result<()> {
+fn write_checked(rt: &impl Print, answer: Result<(), Refused>) -> io::Result<()> {
     match answer {
-        Checked::AllPass => println!(rt; " = pass"),
-        Checked::Broken(n) => println!(rt; " = broken {n}"),
+        Ok(()) => println!(rt; " = pass"),
+        Err(broken) => println!(rt; " = broken {}", broken.place),
     }
 }
 
 // The answer, and then the scratch from the table's mark on.
-fn write_out(rt: &impl Print, answer: Out) -> io::Result<()> {
+fn write_out(rt: &impl Print, answer: Out, scratch: &[u32]) -> io::Result<()> {
     match answer {
-        Out::Done(p, mark) => {
-            print!(rt; " = done")?;
-            write_pointer(rt, p)?;
-            write_number(rt, mark)?;
-        }
-        Out::Refused(k) => print!(rt; " = refused {k}")?,
+        Ok((p, mark)) => print!(rt; " = done {} {} {mark} :", p.row, p.shift)?,
+        Err(refusal) => print!(rt; " = refused {} :", refusal.number())?,
     }
-    print!(rt; " :")
+    write_words(rt, scratch, 36)
+}
+
+// Past the end there is nothing to set. The tables' program has this too.
+fn set(words: &mut [u32], at: usize, value: u32) {
+    if at < words.len() {
+        words[at] = value;
+    }
 }
 
 // The row check with one word of the library changed.
 fn check_library(rt: &impl Print, at: usize, value: u32) -> io::Result<()> {
     let mut library = LIBRARY;
-    let scratch = SCRATCH;
-    if 54 <= at {
-        return Ok(());
-    }
-    library[at] = value;
+    set(&mut library, at, value);
     print!(rt; "library {at} {value}")?;
-    let checked = rows::row_check::check_rows(&library, &scratch, LIBRARY_ROWS, MARK, 2);
+    let checked = rows::row_check::check_rows(&library, &SCRATCH, LIBRARY_ROWS, MARK, 2);
     write_checked(rt, checked)
 }
 
 // The same with a word of the scratch.
 fn check_scratch(rt: &impl Print, at: usize, value: u32) -> io::Result<()> {
-    let library = LIBRARY;
     let mut scratch = SCRATCH;
-    if 54 <= at {
-        return Ok(());
-    }
-    scratch[at] = value;
+    set(&mut scratch, at, value);
     print!(rt; "scratch {at} {value}")?;
-    let checked = rows::row_check::check_rows(&library, &scratch, LIBRARY_ROWS, MARK, 2);
+    let checked = rows::row_check::check_rows(&LIBRARY, &scratch, LIBRARY_ROWS, MARK, 2);
     write_checked(rt, checked)
 }
 
-// An application, lambda or pi where the mark is `mark`.
-fn make_two(rt: &impl Print, kind: u32, mark: u32, a: Ptr, b: Ptr) -> io::Result<()> {
-    let library = LIBRARY;
+// A row with children, which stand below the mark.
+fn write_made(rt: &impl Print, mark: u32, w: Shape) -> io::Result<()>
+    requires mark_bound { mark ≤ 6 }
+    requires due { Due (6 + mark) w }
+{
     let mut scratch = SCRATCH;
-    if kind < 3 {
+    let out = rows::writer::make(&LIBRARY, &mut scratch, LIBRARY_ROWS, mark, w);
+    write_out(rt, out, &scratch)
+}
+
+// An application, lambda or pi where the mark is `mark`: of the nine kinds, the three with two children stand together.
+fn make_two(rt: &impl Print, kind: Kind, mark: u32, a: Ptr, b: Ptr) -> io::Result<()> {
+    let code = u32::from(kind);
+    if code < 3 {
         return Ok(());
     }
-    if 5 < kind {
-        return Ok(());
-    }
-    if mark < MARK {
+    if 5 < code {
         return Ok(());
     }
     if 6 < mark {
         return Ok(());
     }
-    if 10 <= a.row {
+    if 6 + mark <= a.row {
         return Ok(());
     }
-    if 10 <= b.row {
+    if 6 + mark <= b.row {
         return Ok(());
     }
-    print!(rt; "make {kind} {mark}")?;
+    print!(rt; "make {code} {mark}")?;
     write_pointer(rt, a)?;
     write_pointer(rt, b)?;
     let w = Shape {
-        kind,
+        kind: code,
         first: a,
         second: b,
         third: Ptr { row: 0, shift: 0 },
     };
-    let out = rows::writer::make(&library, &mut scratch, LIBRARY_ROWS, mark, w);
-    write_out(rt, out)?;
-    write_words(rt, &scratch, 36)
+    write_made(rt, mark, w)
 }
 
 // A let.
 fn make_let(rt: &impl Print, mark: u32, a: Ptr, b: Ptr, c: Ptr) -> io::Result<()> {
-    let library = LIBRARY;
-    let mut scratch = SCRATCH;
-    if mark < MARK {
-        return Ok(());
-    }
     if 6 < mark {
         return Ok(());
     }
-    if 10 <= a.row {
+    if 6 + mark <= a.row {
         return Ok(());
     }
-    if 10 <= b.row {
+    if 6 + mark <= b.row {
         return Ok(());
     }
-    if 10 <= c.row {
+    if 6 + mark <= c.row {
         return Ok(());
     }
-    print!(rt; "make 6 {mark}")?;
+    let code = u32::from(Kind::Let);
+    print!(rt; "make {code} {mark}")?;
     write_pointer(rt, a)?;
     write_pointer(rt, b)?;
     write_pointer(rt, c)?;
     let w = Shape {
-        kind: 6,
+        kind: code,
         first: a,
         second: b,
         third: c,
     };
-    let out = rows::writer::make(&library, &mut scratch, LIBRARY_ROWS, mark, w);
-    write_out(rt, out)?;
-    write_words(rt, &scratch, 36)
+    write_made(rt, mark, w)
 }
 
 fn make_cases(rt: &impl Print, mark: u32) -> io::Result<()> {
@@ -166,133 +167,113 @@ fn make_cases(rt: &impl Print, mark: u32) -> io::Result<()> {
         row: 1,
         shift: 4294967295,
     };
-    make_two(rt, 3, mark, none, open)?;
-    make_two(rt, 3, mark, top, open)?;
-    make_two(rt, 3, mark, open, over)?;
-    make_two(rt, 3, mark, far, open)?;
-    make_two(rt, 4, mark, open, over)?;
-    make_two(rt, 5, mark, over, open)?;
-    make_let(rt, mark, none, open, over)?;
-    make_let(rt, mark, over, none, none)?;
-    make_let(rt, mark, none, far, open)
-}
-
-// The rows with plain words alone.
-fn make_var(rt: &impl Print, mark: u32, index: u32) -> io::Result<()> {
-    let library = LIBRARY;
-    let mut scratch = SCRATCH;
-    if 6 < mark {
-        return Ok(());
+    for (kind, a, b) in [
+        (Kind::Application, none, open),
+        (Kind::Application, top, open),
+        (Kind::Application, open, over),
+        (Kind::Application, far, open),
+        (Kind::Lambda, open, over),
+        (Kind::Pi, over, open),
+    ] {
+        make_two(rt, kind, mark, a, b)?;
     }
-    print!(rt; "variable {index}")?;
-    let out = rows::writer::make_var(&library, &mut scratch, LIBRARY_ROWS, mark, index);
-    write_out(rt, out)?;
-    write_words(rt, &scratch, 36)
-}
-
-fn make_sort(rt: &impl Print, mark: u32, level: u32) -> io::Result<()> {
-    let library = LIBRARY;
-    let mut scratch = SCRATCH;
-    if 6 < mark {
-        return Ok(());
+    for (a, b, c) in [(none, open, over), (over, none, none), (none, far, open)] {
+        make_let(rt, mark, a, b, c)?;
     }
-    print!(rt; "sort {level}")?;
-    let out = rows::writer::make_sort(&library, &mut scratch, LIBRARY_ROWS, mark, level);
-    write_out(rt, out)?;
-    write_words(rt, &scratch, 36)
+    Ok(())
 }
 
-fn make_const(rt: &impl Print, mark: u32, declaration: u32, levels: u32) -> io::Result<()> {
-    let library = LIBRARY;
-    let mut scratch = SCRATCH;
-    if 6 < mark {
-        return Ok(());
+// A line's name for the row, and the row written.
+fn make_leaf(rt: &impl Print, mark: u32, leaf: Leaf, scratch: &mut [u32; 54]) -> io::Result<Out>
+    requires { mark ≤ 6 }
+{
+    let nlib = LIBRARY_ROWS;
+    match leaf {
+        Leaf::Variable(index) => {
+            print!(rt; "variable {index}")?;
+            Ok(rows::writer::make_var(&LIBRARY, scratch, nlib, mark, index))
+        }
+        Leaf::Sort(level) => {
+            print!(rt; "sort {level}")?;
+            Ok(rows::writer::make_sort(&LIBRARY, scratch, nlib, mark, level))
+        }
+        Leaf::Constant(declaration, levels) => {
+            print!(rt; "constant {declaration} {levels}")?;
+            Ok(rows::writer::make_const(&LIBRARY, scratch, nlib, mark, declaration, levels))
+        }
+        Leaf::Number(low, high) => {
+            print!(rt; "number {low} {high}")?;
+            Ok(rows::writer::make_number(&LIBRARY, scratch, nlib, mark, low, high))
+        }
     }
-    print!(rt; "constant {declaration} {levels}")?;
-    let out = rows::writer::make_const(
-        &library,
-        &mut scratch,
-        LIBRARY_ROWS,
-        mark,
-        declaration,
-        levels,
-    );
-    write_out(rt, out)?;
-    write_words(rt, &scratch, 36)
 }
 
-fn make_number(rt: &impl Print, mark: u32, low: u32, high: u32) -> io::Result<()> {
-    let library = LIBRARY;
-    let mut scratch = SCRATCH;
-    if 6 < mark {
-        return Ok(());
+fn leaf_cases(rt: &impl Print, mark: u32) -> io::Result<()>
+    requires { mark ≤ 6 }
+{
+    for leaf in [
+        Leaf::Variable(4095),
+        Leaf::Variable(4096),
+        Leaf::Sort(255),
+        Leaf::Sort(256),
+        Leaf::Constant(1, 3),
+        Leaf::Number(4294967295, 7),
+    ] {
+        let mut scratch = SCRATCH;
+        let out = make_leaf(rt, mark, leaf, &mut scratch)?;
+        write_out(rt, out, &scratch)?;
     }
-    print!(rt; "number {low} {high}")?;
-    let out = rows::writer::make_number(&library, &mut scratch, LIBRARY_ROWS, mark, low, high);
-    write_out(rt, out)?;
-    write_words(rt, &scratch, 36)
-}
-
-fn leaf_cases(rt: &impl Print, mark: u32) -> io::Result<()> {
-    make_var(rt, mark, 4095)?;
-    make_var(rt, mark, 4096)?;
-    make_sort(rt, mark, 255)?;
-    make_sort(rt, mark, 256)?;
-    make_const(rt, mark, 1, 3)?;
-    make_number(rt, mark, 4294967295, 7)
+    Ok(())
 }
 
 // A pointer's bound, and the pointer shifted up by k.
 fn pointer_case(rt: &impl Print, row: u32, shift: u32, k: u32) -> io::Result<()> {
-    let library = LIBRARY;
-    let scratch = SCRATCH;
     if 12 <= row {
         return Ok(());
     }
     let p = Ptr { row, shift };
-    print!(rt; "pointer")?;
-    write_pointer(rt, p)?;
-    write_number(rt, k)?;
-    print!(rt; " = {}", rows::ptr_bound(&library, &scratch, p))?;
+    print!(rt;
+        "pointer {row} {shift} {k} = {}",
+        rows::ptr_bound(&LIBRARY, &SCRATCH, p)
+    )?;
     if 65536 < k {
         return Ok(());
     }
     if 65536 < shift {
-        return end_line(rt);
+        return println!(rt);
     }
-    write_pointer(rt, rows::shift_up(&library, &scratch, p, k))?;
-    end_line(rt)
+    write_pointer(rt, rows::shift_up(&LIBRARY, &SCRATCH, p, k))?;
+    println!(rt)
 }
 
 fn check_values(rt: &impl Print, at: usize) -> io::Result<()> {
-    check_library(rt, at, 0)?;
-    check_library(rt, at, 1)?;
-    check_library(rt, at, 2)?;
-    check_library(rt, at, 9)?;
-    check_library(rt, at, 256)?;
-    check_library(rt, at, 4096)?;
-    check_library(rt, at, 4294967295)?;
-    check_scratch(rt, at, 0)?;
-    check_scratch(rt, at, 1)?;
-    check_scratch(rt, at, 2)?;
-    check_scratch(rt, at, 9)?;
-    check_scratch(rt, at, 256)?;
-    check_scratch(rt, at, 4096)?;
-    check_scratch(rt, at, 4294967295)
+    for value in VALUES {
+        check_library(rt, at, value)?;
+    }
+    for value in VALUES {
+        check_scratch(rt, at, value)?;
+    }
+    Ok(())
 }
 
 fn main(rt: HostRuntime) -> io::Result<()> {
     for at in 0..54 {
         check_values(&rt, at)?;
     }
-    make_cases(&rt, 4)?;
-    make_cases(&rt, 6)?;
+    for mark in [4, 6] {
+        make_cases(&rt, mark)?;
+    }
     leaf_cases(&rt, 5)?;
     leaf_cases(&rt, 6)?;
-    pointer_case(&rt, 0, 0, 5)?;
-    pointer_case(&rt, 0, 3, 5)?;
-    pointer_case(&rt, 4, 0, 5)?;
-    pointer_case(&rt, 4, 3, 65536)?;
-    pointer_case(&rt, 7, 4294967295, 0)?;
-    pointer_case(&rt, 11, 1, 1)
+    for (row, shift, k) in [
+        (0, 0, 5),
+        (0, 3, 5),
+        (4, 0, 5),
+        (4, 3, 65536),
+        (7, 4294967295, 0),
+        (11, 1, 1),
+    ] {
+        pointer_case(&rt, row, shift, k)?;
+    }
+    Ok(())
 }

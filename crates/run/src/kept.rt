@@ -1,106 +1,79 @@
-// What a run keeps from byte to byte beside the words of its lists, by value.
-use text::{Reader, start};
+// What a run keeps from byte to byte.
+ghost use Rattle.std.specs.Prelude.{◌≡◌, None};
+ghost use Rattle.run.specs.Lines.{unset, Begins, Pushes};
 
-#[derive(Clone, Copy)]
-pub struct Kept {
+use crate::keyword::Keyword;
+use crate::lists::Lists;
+use crate::stop::Wrong;
+use rows::Ptr;
+use text::Reader;
+
+#[derive(Drop)]
+pub struct Kept<'a> {
+    pub lists: Lists<'a>,
+    pub settings: Settings,
     pub reader: Reader,
-    // the run is over, with an error line or with the input
-    pub ended: bool,
-    // words in each list
-    pub library: usize,
-    pub declarations: usize,
-    pub rules: usize,
-    pub context: usize,
-    pub scratch: usize,
+    pub statement: Statement,
+    // what the last call gave, if that was a term
+    pub answer: Option<Ptr>,
+}
+
+impl Kept<'_> {
+    // All lists empty, all numbers at their start, and no call before.
+    pub fn reset(&mut self)
+        ensures no_answer { self.new.answer ≡ None }
+        ensures library { self.new.lists.library.count ≡ 0 }
+        ensures declarations { self.new.lists.declarations.count ≡ 0 }
+        ensures rules { self.new.lists.rules.count ≡ 0 }
+        ensures context { self.new.lists.context.count ≡ 0 }
+        ensures scratch { self.new.lists.scratch.count ≡ 0 }
+        ensures settings { self.new.settings ≡ unset }
+        ensures statement { self.new.statement ≡ self.old.statement }
+    {
+        self.lists.clear();
+        self.settings = Settings::default();
+        self.answer = None;
+    }
+}
+
+// The numbers that a call takes beside its lists and its term.
+#[derive(Clone, Copy, Debug, Default, PartialEq, Eq)]
+pub struct Settings {
     pub mark: u32,
     pub depth: u32,
     pub steps: u32,
     pub nesting: u32,
-    // whether the last call gave a term, and which
-    pub answered: bool,
-    pub row: u32,
-    pub shift: u32,
-    // the line's keyword, 0 before it is read; the numbers after it, how many and which
-    pub keyword: u64,
-    pub numbers: u32,
-    pub first: u32,
-    pub second: u32,
 }
 
-pub fn fresh() -> Kept {
-    Kept {
-        reader: start(),
-        ended: false,
-        library: 0,
-        declarations: 0,
-        rules: 0,
-        context: 0,
-        scratch: 0,
-        mark: 0,
-        depth: 0,
-        steps: 0,
-        nesting: 0,
-        answered: false,
-        row: 0,
-        shift: 0,
-        keyword: 0,
-        numbers: 0,
-        first: 0,
-        second: 0,
-    }
+// A line as far as it is read: its keyword, and how many numbers are behind it and which; a list's words are none of these. There is no
+// heap, so the numbers stand in an array with their count.
+#[derive(Clone, Copy, Debug, Default, PartialEq, Eq)]
+pub struct Statement {
+    pub keyword: Option<Keyword>,
+    pub count: usize,
+    pub numbers: [u32; 2],
 }
 
-impl Kept {
-    pub fn reading(mut self, reader: Reader) -> Kept {
-        self.reader = reader;
-        self
-    }
-
-    pub fn end(mut self) -> Kept {
-        self.ended = true;
-        self
-    }
-
-    // All lists empty, all numbers at their start, and no call before.
-    pub fn reset(self) -> Kept {
-        let reader = self.reader;
-        fresh().reading(reader)
-    }
-
-    pub fn with_keyword(mut self, keyword: u64) -> Kept {
-        self.keyword = keyword;
-        self
-    }
-
-    // A number after the keyword; only the first two are ever asked for.
-    pub fn with_number(mut self, number: u32) -> Kept {
-        if self.numbers == 0 {
-            self.first = number;
-            self.numbers = 1;
-            return self;
+impl Statement {
+    pub fn begin(&mut self, word: u64) -> Result<(), Wrong>
+        ensures { Begins self.old self.new result }
+    {
+        if self.keyword.is_some() {
+            return Err(Wrong::SecondWord);
         }
-        self.second = number;
-        self.numbers = 2;
-        self
+        self.keyword = Some(Keyword::try_from(word)?);
+        Ok(())
     }
 
-    // The next line has no keyword yet.
-    pub fn next_line(mut self) -> Kept {
-        self.keyword = 0;
-        self.numbers = 0;
-        self
-    }
-
-    pub fn with_term(mut self, row: u32, shift: u32, mark: u32) -> Kept {
-        self.answered = true;
-        self.row = row;
-        self.shift = shift;
-        self.mark = mark;
-        self
-    }
-
-    pub fn with_refusal(mut self) -> Kept {
-        self.answered = false;
-        self
+    // One number more, where so many are wanted.
+    pub fn push(&mut self, number: u32, wanted: usize) -> Result<(), Wrong>
+        ensures { Pushes self.old number wanted self.new result }
+    {
+        if wanted.min(self.numbers.len()) <= self.count {
+            return Err(Wrong::Count(wanted));
+        }
+        self.numbers[self.count] = number;
+        self.count += 1;
+        Ok(())
     }
 }

@@ -2,18 +2,22 @@
 // first line that is wrong is answered by one line with its number, and ends the run.
 #![tactic(auto)]
 
-use kept::{Kept, fresh};
-use statements::{finish_line, take_token};
+use kept::{Kept, Settings, Statement};
+use lists::{List, Lists};
 use std::env::FillError;
 use std::io::Read;
 use std::rt::{Env, Files};
 use std::{fs, io};
-use text::feed;
+use stop::Stop;
+use text::Reader;
 
 mod answers;
 mod calls;
 mod kept;
+mod keyword;
+mod lists;
 mod statements;
+mod stop;
 
 // One row more than the maximum of library and of scratch, one record more than the maximum of declarations and of context, so that
 // refusal 1 can be shown; 16,384 rules.
@@ -28,146 +32,65 @@ const CONTEXT_WORDS: usize = 20485;
 // The bytes that are read at once; the longest name of a file.
 const PIECE: usize = 4096;
 
-fn take_byte(
-    rt: &impl Print,
-    library: &mut [u32],
-    declarations: &mut [u32],
-    rules: &mut [u32],
-    context: &mut [u32],
-    scratch: &mut [u32],
-    k: Kept,
-    b: u8,
-) -> io::Result<Kept> {
-    let fed = feed(k.reader, b);
-    let token = fed.token;
-    let reader = fed.reader;
-    let taken = take_token(rt, library, declarations, rules, context, scratch, k, token)?;
-    if taken.ended {
-        return Ok(taken);
+// The reader moves on last: where something is wrong, it still has the line that is answered.
+fn take_byte(rt: &impl Print, kept: &mut Kept, b: u8) -> Result<(), Stop> {
+    let fed = kept.reader.feed(b);
+    if let Some(token) = fed.token {
+        kept.take_token(token)?;
     }
-    if !fed.ends {
-        return Ok(taken.reading(reader));
+    if fed.ends {
+        kept.finish_line(rt)?;
     }
-    let finished = finish_line(rt, library, declarations, rules, context, scratch, taken)?;
-    Ok(finished.reading(reader))
+    kept.reader = fed.reader;
+    Ok(())
 }
 
-fn take_piece(
-    rt: &impl Print,
-    library: &mut [u32],
-    declarations: &mut [u32],
-    rules: &mut [u32],
-    context: &mut [u32],
-    scratch: &mut [u32],
-    k: Kept,
-    piece: &[u8],
-) -> io::Result<Kept> {
-    let mut taken = k;
-    for b in piece {
-        taken = take_byte(
-            rt,
-            library,
-            declarations,
-            rules,
-            context,
-            scratch,
-            taken,
-            *b,
-        )?;
-        if taken.ended {
-            return Ok(taken);
-        }
-    }
-    Ok(taken)
-}
-
-// Reads once. The end of the input ends a line that has no end of its own.
-fn read_some(
-    rt: &(impl Print + Eprint),
-    library: &mut [u32],
-    declarations: &mut [u32],
-    rules: &mut [u32],
-    context: &mut [u32],
-    scratch: &mut [u32],
-    k: Kept,
-    input: &mut impl Read,
-) -> io::Result<Kept> {
-    let mut piece = [0u8; PIECE];
-    let got = match input.read(&mut piece) {
-        Ok(n) => n,
-        Err(error) => {
-            eprintln!(rt; "read: {error}")?;
-            return Ok(k.end());
-        }
-    };
-    if got == 0 {
-        let last = take_byte(rt, library, declarations, rules, context, scratch, k, b'\n')?;
-        return Ok(last.end());
-    }
-    take_piece(
-        rt,
-        library,
-        declarations,
-        rules,
-        context,
-        scratch,
-        k,
-        &piece[..got],
-    )
-}
-
-// A proved loop has to end, and nothing says that an input does: the turns are counted, up to a number that no run uses up.
-fn read_all(
-    rt: &(impl Print + Eprint),
-    library: &mut [u32],
-    declarations: &mut [u32],
-    rules: &mut [u32],
-    context: &mut [u32],
-    scratch: &mut [u32],
-    input: &mut impl Read,
-) -> io::Result<()> {
-    let mut k = fresh();
+// A proved loop has to end, and nothing says that an input does: the turns are counted, up to a number that no run uses up. The end of
+// the input ends a line that has no end of its own.
+fn read_all(rt: &impl Print, kept: &mut Kept, input: &mut impl Read) -> Result<(), Stop> {
+    let mut piece = [0; PIECE];
     for _ in 0..u64::MAX {
-        k = read_some(rt, library, declarations, rules, context, scratch, k, input)?;
-        if k.ended {
-            return Ok(());
+        let got = input.read(&mut piece).map_err(Stop::Read)?;
+        if got == 0 {
+            return take_byte(rt, kept, b'\n');
+        }
+        for &b in &piece[..got] {
+            take_byte(rt, kept, b)?;
         }
     }
     Ok(())
 }
 
-// The five lists, all zero.
-fn no_rows() -> [u32; ROW_WORDS] {
-    [0u32; ROW_WORDS]
-}
-
-fn no_declarations() -> [u32; DECLARATION_WORDS] {
-    [0u32; DECLARATION_WORDS]
-}
-
-fn no_rules() -> [u32; RULE_WORDS] {
-    [0u32; RULE_WORDS]
-}
-
-fn no_records() -> [u32; CONTEXT_WORDS] {
-    [0u32; CONTEXT_WORDS]
+// The words of a list, all zero.
+fn no_words<const N: usize>() -> [u32; N] {
+    [0; N]
 }
 
 fn run_from(rt: &(impl Print + Eprint), input: &mut impl Read) -> io::Result<()> {
-    let mut library = no_rows();
-    let mut scratch = no_rows();
-    let mut declarations = no_declarations();
-    let mut rules = no_rules();
-    let mut context = no_records();
-    read_all(
-        rt,
-        &mut library,
-        &mut declarations,
-        &mut rules,
-        &mut context,
-        &mut scratch,
-        input,
-    )
+    let mut library = no_words::<ROW_WORDS>();
+    let mut declarations = no_words::<DECLARATION_WORDS>();
+    let mut rules = no_words::<RULE_WORDS>();
+    let mut context = no_words::<CONTEXT_WORDS>();
+    let mut scratch = no_words::<ROW_WORDS>();
+    let mut kept = Kept {
+        lists: Lists {
+            library: List::new(&mut library),
+            declarations: List::new(&mut declarations),
+            rules: List::new(&mut rules),
+            context: List::new(&mut context),
+            scratch: List::new(&mut scratch),
+        },
+        settings: Settings::default(),
+        reader: Reader::default(),
+        statement: Statement::default(),
+        answer: None,
+    };
+    match read_all(rt, &mut kept, input) {
+        Ok(()) => Ok(()),
+        Err(Stop::Line(wrong)) => println!(rt; "line {}: {wrong}", kept.reader.line),
+        Err(Stop::Read(error)) => eprintln!(rt; "read: {error}"),
+        Err(Stop::Write(error)) => Err(error),
+    }
 }
 
 fn run_file(rt: &(impl Print + Eprint + Files), name: &str) -> io::Result<()> {

@@ -17,8 +17,9 @@ use Rattle.course.specs.Charged as course
 use Rattle.course.specs.Charged.{and_on, put_on, put_in, join_in}
 use Rattle.ways.specs.Spines.{args_of}
 use Rattle.rows.specs.declared.Ptr.{Ptr}
-use Rattle.rows.specs.declared.Out.{Out}
-use Rattle.rows.specs.declared.Out.TheVariants.{Done, Refused}
+use Rattle.rows.specs.Refusals.{Out, number_of}
+use Rattle.std.specs.Prelude.{Ok, Err}
+use Rattle.rows.specs.declared.refusals.Refusal.{Refusal}
 use Rattle.rows.specs.Words.{ptr_of, store_of, whole, Held}
 use Rattle.rows.specs.Writes.{Wrote}
 use Rattle.rows.proofs.Store.{held_length}
@@ -105,7 +106,7 @@ module _ (most : ℕ) where
 
 -- the arguments from..i have been applied: result stands for them, and rows are used up to `at`
 pub record Applied (l sc : List ℕ) (nlib m : ℕ) (f t : Ptr) (from : ℕ) (sc₁ : List ℕ) (result : Ptr) (at i : ℕ) : Type 0 where
-  pub wrote : Wrote l sc m (Done result at) sc₁ (run_in (nlib + length sc / 9) (store_of l sc m) (ptr_of f) (ptr_of t) from i)
+  pub wrote : Wrote l sc m (Ok (result, at)) sc₁ (run_in (nlib + length sc / 9) (store_of l sc m) (ptr_of f) (ptr_of t) from i)
   pub there : result.row < nlib + at
   pub begun : from ≤ i
 
@@ -178,25 +179,25 @@ module _ (l sc : List ℕ) (nlib m : ℕ) (f t : Ptr) (count from to : ℕ) (giv
       one_more : {out : Out} {sc₂ : List ℕ} → Wrote l sc₁ at out sc₂ next → Wrote l sc m out sc₂ (run_in most (store_of l sc m) (ptr_of f) (ptr_of t) from (i + 1))
       one_more {out} {sc₂} w = rw next_is at (wrote_then l sc m result at sc₁ _ k.wrote out sc₂ next w)
 
-      pub applied_next : {out : Out} {sc₂ : List ℕ} (p : Ptr) (at₂ : ℕ) → out ≡ Done p at₂ → Wrote l sc₁ at out sc₂ next → Applied l sc nlib m f t from sc₂ p at₂ (i + 1)
+      pub applied_next : {out : Out} {sc₂ : List ℕ} (p : Ptr) (at₂ : ℕ) → out ≡ Ok (p, at₂) → Wrote l sc₁ at out sc₂ next → Applied l sc nlib m f t from sc₂ p at₂ (i + 1)
       applied_next {out} {sc₂} p at₂ e w =
-          let done : Wrote l sc₁ at (Done p at₂) sc₂ next = rw e at w in
+          let done : Wrote l sc₁ at (Ok (p, at₂)) sc₂ next = rw e at w in
           let low = put_there _ _ _ _ done.says in
           let many = held_length l sc₂ at₂ nlib (done_held l sc₁ at p at₂ sc₂ _ done nlib now_held) in
           let begun = k.begun in
           record { wrote = one_more done; there = omega arith; begun = omega arith }
 
-      pub refused_there : {out : Out} {sc₂ : List ℕ} (n : ℕ) → out ≡ Refused n → i < to → Wrote l sc₁ at out sc₂ next →
-          Wrote l sc m out sc₂ (run_in most (store_of l sc m) (ptr_of f) (ptr_of t) from to)
-      refused_there {out} {sc₂} n e h w =
+      pub refused_there : {sc₂ : List ℕ} (n : Refusal) → i < to → Wrote l sc₁ at (Err n) sc₂ next →
+          Wrote l sc m (Err n) sc₂ (run_in most (store_of l sc m) (ptr_of f) (ptr_of t) from to)
+      refused_there {sc₂} n h w =
           let begun = k.begun in
-          let so_far : Wrote l sc m (Refused n) sc₂ (run_in most (store_of l sc m) (ptr_of f) (ptr_of t) from (i + 1)) = one_more (rw e at w) in
-          rw e (record {
-            says = join_refused most (store_of l sc m) (ptr_of f) args from (i + 1) (omega arith) n to (omega arith) so_far.says;
+          let so_far = one_more w in
+          record {
+            says = join_refused most (store_of l sc m) (ptr_of f) args from (i + 1) (omega arith) (number_of n) to (omega arith) so_far.says;
             kept = so_far.kept;
             same_length = so_far.same_length;
             grown = λ p m' q. absurd (let z : ◌≡◌ {A = ℕ} 0 1 = cc in omega arith);
-          })
+          }
 
-    pub all_applied : i ≡ to → Wrote l sc m (Done result at) sc₁ (run_in most (store_of l sc m) (ptr_of f) (ptr_of t) from to)
+    pub all_applied : i ≡ to → Wrote l sc m (Ok (result, at)) sc₁ (run_in most (store_of l sc m) (ptr_of f) (ptr_of t) from to)
     all_applied e = rw (← e) k.wrote

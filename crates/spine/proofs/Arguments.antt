@@ -90,6 +90,10 @@ module _ (l sc : List ℕ) (t : Ptr) (count : ℕ) where
       let r = spine_of (pass_formed w.pass) (scope_good w.scope) in
       record { walks = w; scope = w.scope; the_head = head_of (store_of l sc w.mark) (ptr_of t); all = args_of (store_of l sc w.mark) (ptr_of t); behind = []; whole_spine = r; spine = r; position = omega arith; counted = q }
 
+  -- the same place, its position written in another way
+  pub moved : (p : Ptr) (last last' : ℕ) → last ≡ last' → Arguing l sc t count p last → Arguing l sc t count p last'
+  moved p last last' e k = subst (λ (n : ℕ). Arguing l sc t count p n) e k
+
   module _ (p : Ptr) (last : ℕ) (k : Arguing l sc t count p last) where
     -- there is an argument to come, so this is an application
     pub application : get_or (words_at l sc p.row) 0 0 ≡ 3

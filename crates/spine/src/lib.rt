@@ -1,5 +1,6 @@
 // Spines: the head and the count of arguments, the argument at a position, a term applied to a run of another spine's arguments.
-// No list of arguments is kept: the rows are walked again.
+// No list of arguments is kept: the rows are walked again. So a term goes down with the count of its arguments beside it: what ties the two
+// stands in the rows, and no struct of them could say it.
 #![tactic(auto)]
 
 ghost use Rattle.std.specs.Prelude.{◌≡◌, ◌+◌, ◌*◌, ◌/◌, ◌<◌, ◌≤◌, true, length, get_or, eqb};
@@ -10,10 +11,12 @@ ghost use Rattle.rows.specs.Words.{ptr_of, pair_at, words_at, store_of, whole, S
 ghost use Rattle.rows.specs.Writes.{Wrote};
 ghost use Rattle.spine.specs.Walks.{Walks, HasChild, Walked, Argument, Counted, Applies, run_in};
 
+use rows::kinds::Kind;
+use rows::refusals::Out;
 use rows::writer::make;
-use rows::{Out, Ptr, Shape, kind_of, pair_of, row_at, shift_up};
+use rows::{Ptr, Shape, kind_of, pair_of, row_at, shift_up};
 
-#[derive(Clone, Copy)]
+#[derive(Clone, Copy, Debug, PartialEq, Eq)]
 pub struct Spined {
     pub head: Ptr,
     pub count: u32,
@@ -23,7 +26,7 @@ fn is_app<'a>(library: &'a [u32], scratch: &'a [u32], t: Ptr) -> bool
     requires { Stands library.now scratch.now t.row }
     ensures { result ≡ eqb (get_or (words_at library.now scratch.now t.row) 0 0) 3 }
 {
-    kind_of(row_at(library, scratch, t.row)) == 3
+    kind_of(row_at(library, scratch, t.row)) == Kind::Application.into()
 }
 
 // Pair j of the row that t points at, taking t's shift on.
@@ -37,7 +40,7 @@ fn child<'a>(library: &'a [u32], scratch: &'a [u32], t: Ptr, j: usize) -> Ptr
     shift_up(library, scratch, p, t.shift)
 }
 
-// The head, found through applications.
+// The head, found through applications: how many there are is known at the end alone.
 pub fn head_of<'a>(library: &'a [u32], scratch: &'a [u32], t: Ptr) -> Spined
     requires { Walks library.now scratch.now t }
     ensures { Walked (whole library.now scratch.now) (ptr_of t) result }
@@ -58,10 +61,8 @@ pub fn argument<'a>(library: &'a [u32], scratch: &'a [u32], t: Ptr, count: u32, 
     ensures { Argument (whole library.now scratch.now) (ptr_of t) count i result }
 {
     let mut at = t;
-    let mut last = count - 1;
-    while i < last {
+    for _later in i + 1..count {
         at = child(library, scratch, at, 0);
-        last -= 1;
     }
     child(library, scratch, at, 1)
 }
@@ -74,7 +75,7 @@ pub fn apply_one(library: &[u32], scratch: &mut [u32], nlib: u32, mark: u32, f: 
         (nlib + length scratch.old / 9) (store_of library.now scratch.old mark) (node app (ptr_of f) (ptr_of a) blank)) }
 {
     let w = Shape {
-        kind: 3,
+        kind: Kind::Application.into(),
         first: f,
         second: a,
         third: Ptr { row: 0, shift: 0 },
@@ -100,16 +101,9 @@ pub fn apply(
 {
     let mut result = f;
     let mut at = mark;
-    let mut i = from;
-    while i < to {
-        let a = argument(library, &scratch[..], t, count, i);
-        let out = apply_one(library, scratch, nlib, at, result, a);
-        let Out::Done(p, m) = out else {
-            return out;
-        };
-        result = p;
-        at = m;
-        i += 1;
+    for i in from..to {
+        let a = argument(library, scratch, t, count, i);
+        (result, at) = apply_one(library, scratch, nlib, at, result, a)?;
     }
-    Out::Done(result, at)
+    Ok((result, at))
 }

@@ -6,8 +6,8 @@ use Rattle.rules.specs.Rows.{Cell, bound}
 use Rattle.rules.specs.RowCheck as rules
 use Rattle.rules.specs.RowCheck.{InScope}
 use Rattle.rows.specs.declared.Ptr.{Ptr}
-use Rattle.rows.specs.declared.row_check.Checked.{Checked}
-use Rattle.rows.specs.declared.row_check.Checked.TheVariants.{AllPass}
+use Rattle.std.specs.Prelude.{Result, Ok, is_err, ⊤}
+use Rattle.rows.specs.declared.refusals.Refused.{Refused}
 use Rattle.rows.specs.Words.{ptr_of, decode, words_at, store_of, whole, Held}
 use Rattle.rows.specs.Checks.{CheckSays, all_pass, broken}
 use Rattle.rows.proofs.Store.{cell_is, bound_used, held_length}
@@ -20,7 +20,7 @@ pub not_shown : {P : Type 0} → Shows P false
 not_shown = record { yes = λ e. absurd (let z : ◌≡◌ {A = ℕ} 0 1 = cc in omega arith) }
 
 -- the row check's answer is that all rows pass
-pub pass_of : {D m nlib : ℕ} {l sc : List ℕ} {r : Checked} → CheckSays D l sc m nlib r → r ≡ AllPass → rules.AllPass D (store_of l sc m)
+pub pass_of : {D m nlib : ℕ} {l sc : List ℕ} {r : Result ⊤ Refused} → CheckSays D l sc m nlib r → is_err r ≡ false → rules.AllPass D (store_of l sc m)
 pass_of (all_pass k) e = record { each = λ n h. k.rules n (let many = k.many in omega arith) }
 pass_of (broken b) e = absurd (let z : ◌≡◌ {A = ℕ} 0 1 = cc in omega arith)
 
@@ -36,7 +36,7 @@ module _ (l sc : List ℕ) (m nlib : ℕ) (held : Held l sc m nlib) (t : Ptr) wh
       record { there = omega arith; still = λ e. still (sym here ∙ e); within = rw (← used, ← is_bound) small }
 
   -- every test has passed but the last, that a closed pointer's shift is 0
-  pub ready_by : {r : Checked} → CheckSays 1 l sc m nlib r → r ≡ AllPass → t.row < nlib + m → (b : ℕ) → b ≡ bound (whole l sc) (ptr_of t) → b ≤ 4096 →
+  pub ready_by : {r : Result ⊤ Refused} → CheckSays 1 l sc m nlib r → is_err r ≡ false → t.row < nlib + m → (b : ℕ) → b ≡ bound (whole l sc) (ptr_of t) → b ≤ 4096 →
       (ws : List ℕ) → ws ≡ words_at l sc t.row → (k : ℕ) → k ≡ get_or ws 7 0 → (k ≡ 0 → t.shift ≡ 0) → Ready l sc m t
   ready_by says all low b is_bound small ws read k word still = record {
     pass = pass_of says all;

@@ -6,8 +6,9 @@ ghost use Rattle.std.specs.Prelude.{length, ◌≤◌, ◌≡◌};
 ghost use Rattle.rows.specs.Words.{Held};
 ghost use Rattle.spine_run.specs.Ready.{Ready, Shows};
 
-use rows::row_check::{Checked, check_rows};
-use rows::{Out, Ptr, bound_of, ptr_bound, row_at};
+use rows::refusals::Out;
+use rows::row_check::check_rows;
+use rows::{Ptr, bound_of, ptr_bound, row_at};
 use std::io;
 
 const LIBRARY_ROWS: u32 = 7;
@@ -48,30 +49,22 @@ const SCRATCH: [u32; 45] = [
     0, 0, 0, 0, 0, 0, 0, 0, 0,
 ];
 
-fn write_number(rt: &impl Print, n: u32) -> io::Result<()> {
-    print!(rt; " {n}")
-}
-
+// The rows' program has this too: a crate for the three lines would be no plainer.
 fn write_pointer(rt: &impl Print, p: Ptr) -> io::Result<()> {
-    write_number(rt, p.row)?;
-    write_number(rt, p.shift)
+    print!(rt; " {} {}", p.row, p.shift)
 }
 
 fn write_words(rt: &impl Print, words: &[u32], from: usize) -> io::Result<()> {
     for word in words.iter().skip(from) {
-        write_number(rt, *word)?;
+        print!(rt; " {word}")?;
     }
     Ok(())
 }
 
 fn write_out(rt: &impl Print, answer: Out) -> io::Result<()> {
     match answer {
-        Out::Done(p, mark) => {
-            print!(rt; " = done")?;
-            write_pointer(rt, p)?;
-            write_number(rt, mark)
-        }
-        Out::Refused(k) => print!(rt; " = refused {k}"),
+        Ok((p, mark)) => print!(rt; " = done {} {} {mark}", p.row, p.shift),
+        Err(refusal) => print!(rt; " = refused {}", refusal.number()),
     }
 }
 
@@ -80,10 +73,9 @@ fn ready<'a>(library: &'a [u32], scratch: &'a [u32], nlib: u32, mark: u32, t: Pt
     requires { Held library.now scratch.now mark nlib }
     ensures { Shows (Ready library.now scratch.now mark t) result }
 {
-    let checked = check_rows(library, scratch, nlib, mark, 1);
-    let Checked::AllPass = checked else {
+    if check_rows(library, scratch, nlib, mark, 1).is_err() {
         return false;
-    };
+    }
     if nlib + mark <= t.row {
         return false;
     }
@@ -113,8 +105,7 @@ fn show_head<'a>(
         write_pointer(rt, t)?;
         print!(rt; " =")?;
         write_pointer(rt, r.head)?;
-        write_number(rt, r.count)?;
-        println!(rt)?;
+        println!(rt; " {}", r.count)?;
     }
     Ok(())
 }
@@ -159,10 +150,10 @@ fn show_apply(
     requires { Held library.now scratch.old mark nlib }
 {
     let free = 9 * (mark as usize);
-    if !ready(library, &scratch[..], nlib, mark, t) {
+    if !ready(library, scratch, nlib, mark, t) {
         return Ok(());
     }
-    let r = spine::head_of(library, &scratch[..], t);
+    let r = spine::head_of(library, scratch, t);
     let count = r.count;
     if nlib + mark <= f.row {
         return Ok(());
@@ -177,28 +168,24 @@ fn show_apply(
     print!(rt; "apply")?;
     write_pointer(rt, f)?;
     write_pointer(rt, t)?;
-    write_number(rt, from)?;
-    write_number(rt, to)?;
+    print!(rt; " {from} {to}")?;
     write_out(rt, out)?;
     print!(rt; " :")?;
-    write_words(rt, &scratch[..], free)?;
+    write_words(rt, scratch, free)?;
     println!(rt)
 }
 
 fn walk_case(rt: &impl Print, row: u32, shift: u32) -> io::Result<()> {
-    let library = LIBRARY;
-    let scratch = SCRATCH;
     let t = Ptr { row, shift };
-    show_head(rt, &library, &scratch, LIBRARY_ROWS, MARK, t)?;
-    show_arguments(rt, &library, &scratch, LIBRARY_ROWS, MARK, t)
+    show_head(rt, &LIBRARY, &SCRATCH, LIBRARY_ROWS, MARK, t)?;
+    show_arguments(rt, &LIBRARY, &SCRATCH, LIBRARY_ROWS, MARK, t)
 }
 
 fn apply_case(rt: &impl Print, f: Ptr, t: Ptr, from: u32, to: u32) -> io::Result<()> {
-    let library = LIBRARY;
     let mut scratch = SCRATCH;
     show_apply(
         rt,
-        &library,
+        &LIBRARY,
         &mut scratch,
         LIBRARY_ROWS,
         MARK,
@@ -256,23 +243,28 @@ fn tower_case(rt: &impl Print, row: u32) -> io::Result<()> {
 }
 
 fn main(rt: HostRuntime) -> io::Result<()> {
-    walk_case(&rt, 0, 0)?;
-    walk_case(&rt, 1, 2)?;
-    walk_case(&rt, 4, 0)?;
-    walk_case(&rt, 4, 3)?;
-    walk_case(&rt, 6, 0)?;
-    walk_case(&rt, 6, 5)?;
-    walk_case(&rt, 8, 2)?;
-    walk_case(&rt, 9, 3)?;
-    apply_runs(&rt, Ptr { row: 7, shift: 0 }, Ptr { row: 6, shift: 5 })?;
-    apply_runs(&rt, Ptr { row: 1, shift: 9 }, Ptr { row: 6, shift: 0 })?;
+    for (row, shift) in [
+        (0, 0),
+        (1, 2),
+        (4, 0),
+        (4, 3),
+        (6, 0),
+        (6, 5),
+        (8, 2),
+        (9, 3),
+    ] {
+        walk_case(&rt, row, shift)?;
+    }
     let far = Ptr {
         row: 2,
         shift: 4095,
     };
+    apply_runs(&rt, Ptr { row: 7, shift: 0 }, Ptr { row: 6, shift: 5 })?;
+    apply_runs(&rt, Ptr { row: 1, shift: 9 }, Ptr { row: 6, shift: 0 })?;
     apply_runs(&rt, far, Ptr { row: 6, shift: 0 })?;
     tower_walk(&rt)?;
-    tower_case(&rt, 1997)?;
-    tower_case(&rt, 1998)?;
-    tower_case(&rt, 1999)
+    for row in 1997..=1999 {
+        tower_case(&rt, row)?;
+    }
+    Ok(())
 }

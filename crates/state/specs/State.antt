@@ -1,6 +1,6 @@
 -- The state of a reduction as the code carries it, in the terms of the rules: what every function is given, what an answer means, what a call leaves.
 -- Assumes nothing: these are definitions.
-use Rattle.std.specs.Prelude.{ℕ, ◌+◌, ◌*◌, ◌/◌, ◌≤◌, ◌<◌, ◌≡◌, List, length, take}
+use Rattle.std.specs.Prelude.{ℕ, ◌+◌, ◌*◌, ◌/◌, ◌≤◌, ◌<◌, ◌≡◌, List, length, take, Result, Ok, Err}
 use Rattle.std.proofs.Math.Option.{Option, none, some}
 use Rattle.rules.specs.Maxima.{most_bound, most_steps}
 use Rattle.rules.specs.RowCheck.{AllPass, InScope}
@@ -14,8 +14,10 @@ use Rattle.rows.specs.Words.{ptr_of, decode, words_at, store_of, Held}
 use Rattle.rows.specs.Writes.{Grown}
 use Rattle.state.specs.declared.Given.{Given}
 use Rattle.state.specs.declared.Meter.{Meter}
-use Rattle.state.specs.declared.Answer.{Answer}
-use Rattle.state.specs.declared.Answer.TheVariants.{Term, Final, Refused}
+use Rattle.state.specs.declared.Tried.{Tried}
+use Rattle.state.specs.declared.Tried.TheVariants.{Term, Final}
+use Rattle.rows.specs.declared.refusals.Refusal.{Refusal}
+use Rattle.rows.specs.Refusals.{number_of}
 
 -- WHAT THE CODE'S VALUES MEAN
 
@@ -26,16 +28,30 @@ tally_of l sc m = tally m.steps (store_of l sc m.mark)
 abbrev pub limits_in : Given → List ℕ → Limits
 limits_in g sc = record { steps = g.steps; rows = g.nlib + length sc / 9 }
 
+-- the same steps with another mark, and one step more
+abbrev pub metered_at : Meter → ℕ → Meter
+metered_at m mark = record { mark = mark; steps = m.steps }
+
+abbrev pub one_step : Meter → ℕ → Meter
+one_step m mark = record { mark = mark; steps = m.steps + 1 }
+
+-- the answer of a try, and of a reduction
+abbrev pub Answer : Type 0
+Answer = Result Tried Refusal
+
+abbrev pub Reduced : Type 0
+Reduced = Result (Ptr × Meter) Refusal
+
 -- "an enum of term, final or refusal": a firing's term, no rule, the document's number
 abbrev pub step_as : Answer → List ℕ → List ℕ → Step
-step_as (Term p m) l sc = fired (tally_of l sc m) (ptr_of p)
-step_as (Final m) l sc = final (tally_of l sc m)
-step_as (Refused k) l sc = stopped k
+step_as (Ok (Term p m)) l sc = fired (tally_of l sc m) (ptr_of p)
+step_as (Ok (Final m)) l sc = final (tally_of l sc m)
+step_as (Err k) l sc = stopped (number_of k)
 
 abbrev pub meter_of : Answer → Option Meter
-meter_of (Term p m) = some m
-meter_of (Final m) = some m
-meter_of (Refused k) = none
+meter_of (Ok (Term p m)) = some m
+meter_of (Ok (Final m)) = some m
+meter_of (Err k) = none
 
 -- WHAT IS GIVEN
 

@@ -14,8 +14,8 @@ use Rattle.rules.specs.Accepted.{decl_words, Closed, IsConstructor, FormOk, plai
 use Rattle.tables.specs.Records.{records_from, records_many, records_nth}
 use Rattle.tables.specs.Env.{rule_of, form_by, decl_of}
 use Rattle.tables.specs.EnvLaws.{rule_read}
-use Rattle.tables.specs.ReadLaws.{role_code_lem}
-use Rattle.tables.specs.Clauses.{Scoped, RuleRight, RulesRight, FormRight, plain_right, constructor_right}
+use Rattle.tables.specs.CodeLaws.{role_code_lem}
+use Rattle.tables.specs.Clauses.{Scoped, Idle, RuleRight, RulesRight, FormRight, plain_right, constructor_right}
 use Rattle.tables.specs.Clauses.{recursor_right, structure_right, DeclRight, DeclKeeps}
 use Rattle.tables.proofs.Listed.{written_out, part_whole, idle_tail, some_same, nth_inside, nth_there, nth_get_d}
 use Rattle.tables.proofs.Holding.{code_most, word_of}
@@ -26,6 +26,21 @@ use Rattle.tables.proofs.Kept.{Means}
 abbrev form_words : List ℕ → List ℕ
 form_words ws =
     get_or ws 8 0 ∷ get_or ws 9 0 ∷ get_or ws 10 0 ∷ get_or ws 11 0 ∷ get_or ws 12 0 ∷ get_or ws 13 0 ∷ get_or ws 14 0 ∷ []
+
+-- which are but two, where the rest is idle
+ten_idle : (ws : List ℕ) → Idle 10 ws → form_words ws ≡ get_or ws 8 0 ∷ get_or ws 9 0 ∷ 0 ∷ 0 ∷ 0 ∷ 0 ∷ 0 ∷ []
+ten_idle ws i = λ k.
+    get_or ws 8 0
+    ∷ get_or ws 9 0
+    ∷ i.each 10 (omega arith) (omega arith) k
+    ∷ i.each 11 (omega arith) (omega arith) k
+    ∷ i.each 12 (omega arith) (omega arith) k
+    ∷ i.each 13 (omega arith) (omega arith) k
+    ∷ i.each 14 (omega arith) (omega arith) k
+    ∷ []
+
+fewer_idle : (ws : List ℕ) → Idle 8 ws → Idle 10 ws
+fewer_idle ws i = record { each = λ j low high. i.each j (omega arith) high }
 
 module _ (ds rs : List ℕ) (s : Store) (L : ℕ) where
   -- RULES
@@ -55,15 +70,10 @@ module _ (ds rs : List ℕ) (s : Store) (L : ℕ) where
   to_form : (ws : List ℕ) {kind : ℕ} → FormRight ds rs s L ws kind → IsForm rs kind (form_words ws) (form_by rs kind ws)
   unfolding form_by
   to_form ws (plain_right i) =
-      rw (i.each 8 (omega arith) (omega arith), i.each 9 (omega arith) (omega arith), i.each 10 (omega arith) (omega arith), i.each 11 (omega arith) (omega arith), i.each 12 (omega arith) (omega arith), i.each 13 (omega arith) (omega arith), i.each 14 (omega arith) (omega arith))
-      plain_words
-  to_form ws (constructor_right i) =
-      rw (i.each 10 (omega arith) (omega arith), i.each 11 (omega arith) (omega arith), i.each 12 (omega arith) (omega arith), i.each 13 (omega arith) (omega arith), i.each 14 (omega arith) (omega arith))
-      constructor_words
+      rw (ten_idle ws (fewer_idle ws i), i.each 8 (omega arith) (omega arith), i.each 9 (omega arith) (omega arith)) plain_words
+  to_form ws (constructor_right i) = rw (ten_idle ws i) constructor_words
   to_form ws (recursor_right r) = rw r.k_flag (recursor_words r.few (are_rules (get_or ws 13 0) (get_or ws 14 0) r.inside))
-  to_form ws (structure_right i c) =
-      rw (i.each 10 (omega arith) (omega arith), i.each 11 (omega arith) (omega arith), i.each 12 (omega arith) (omega arith), i.each 13 (omega arith) (omega arith), i.each 14 (omega arith) (omega arith))
-      structure_words
+  to_form ws (structure_right i c) = rw (ten_idle ws i) structure_words
 
   form_ok : (ws : List ℕ) {kind : ℕ} → FormRight ds rs s L ws kind → FormOk ds s L (form_by rs kind ws)
   unfolding form_by rule_of

@@ -22,7 +22,8 @@ record EntryIn (s : Store) (j : ℕ) (x : Entry) : Type 0 where
   pub value : (v : Ptr) → x.value ≡ some v → InScope s j v
 
 module _ (cs : List ℕ) (s : Store) (rows : ℕ) (all : rows ≡ length s) where
-  five_words : (ws : List ℕ) (j : ℕ) → length ws ≡ 5 → ValueRight s rows j (ptr (get_or ws 2 0) (get_or ws 3 0)) (get_or ws 4 0) → IsEntry ws (entry_of ws)
+  five_words : (ws : List ℕ) (j : ℕ) → length ws ≡ 5 → ValueRight s rows j (ptr (get_or ws 2 0) (get_or ws 3 0)) (get_or ws 4 0) →
+      IsEntry ws (entry_of ws)
   unfolding entry_of
   five_words ws j many v = subst (λ (us : List ℕ). IsEntry us (entry_of ws)) (sym (written_out 5 ws many)) (entry_words (to_value v))
 
@@ -48,5 +49,6 @@ module _ (cs : List ℕ) (s : Store) (rows : ℕ) (all : rows ≡ length s) wher
         record { type = parts.0; value = parts.1 };
   }
 
-pub entry_agrees : {s t : Store} {rows : ℕ} (agree : (r : ℕ) → r < rows → cell_at s r ≡ cell_at t r) (cs : List ℕ) (j : ℕ) → EntryRight cs s rows j → EntryRight cs t rows j
+pub entry_agrees : {s t : Store} {rows : ℕ} (agree : (r : ℕ) → r < rows → cell_at s r ≡ cell_at t r) (cs : List ℕ) (j : ℕ) →
+    EntryRight cs s rows j → EntryRight cs t rows j
 entry_agrees agree cs j r = record { type = scoped_agrees agree r.type; value = value_agrees agree r.value }

@@ -12,7 +12,8 @@ use Rattle.rules.specs.Accepted.{part, Keep, Lowest}
 use Rattle.tables.specs.Records.{records_from, records_many, records_nth}
 use Rattle.tables.proofs.Listed.{some_same, nth_inside, nth_end}
 
-module _ {A : Type 0} (k : ℕ) (ws : List ℕ) (read : List ℕ → A) (Is : List ℕ → A → Type 0) (Ok : List A → ℕ → Type 0) (Right : ℕ → Type 0) where
+module _ {A : Type 0} (k : ℕ) (ws : List ℕ) (read : List ℕ → A) (Is : List ℕ → A → Type 0) (Ok : List A → ℕ → Type 0)
+    (Right : ℕ → Type 0) where
   -- being right is what the rules ask, of the first n records
   pub record Means (n : ℕ) : Type 0 where
     pub is : (i : ℕ) → i < n → Right i → Is (part k ws i) (read (part k ws i))

@@ -1,4 +1,5 @@
 pub mod Reading
+pub mod Everywhere
 pub mod Holding
 pub mod ClauseTests
 pub mod FormTests

@@ -4,7 +4,7 @@ use Prim.Native.Nat.{ℕ, zero, suc, ◌+◌, ◌*◌, ◌-◌, ◌≤◌, ◌<�
 use native.Mathlib.Omega.{arith}
 use mathlib.Core.Path.{◌≡◌, refl, sym, ap, ◌∙◌}
 use mathlib.Core.List.{List, [], ◌∷◌, ◌++◌}
-use mathlib.Core.Option.{none, some}
+use mathlib.Core.Option.{some}
 use lib.ListN.{length, get_or, drop, replicate, length-drop}
 use lib.Seq.{drop-cons, get_or-drop, length-take-le}
 use Rattle.rules.specs.Declarations.{nth}
@@ -53,12 +53,9 @@ idle_tail n k ws e = record {
 pub some_same : {A : Type 0} {x y : A} → some x ≡ some y → x ≡ y
 some_same q = cc
 
-pub none_some : {A : Type 0} {x : A} → none ≡ some x → ⊥
-none_some q = let z : ◌≡◌ {A = ℕ} 0 1 = cc in omega arith
-
 pub nth_inside : {A : Type 0} {x : A} (xs : List A) (i : ℕ) → nth xs i ≡ some x → i < length xs
 unfolding nth
-nth_inside [] i q = absurd (none_some q)
+nth_inside [] i q = cc
 nth_inside (y ∷ xs) zero q = omega arith
 nth_inside (y ∷ xs) (suc i) q = let h = nth_inside xs i q in omega arith
 

@@ -10,7 +10,7 @@ use Rattle.rules.specs.RowCheck.{InScope}
 use Rattle.rules.specs.Accepted.{Closed, IsValue, absent, present}
 use Rattle.tables.specs.Env.{value_by}
 use Rattle.tables.specs.Clauses.{Scoped, ValueRight, no_value, a_value}
-use Rattle.tables.proofs.Listed.{some_same, none_some}
+use Rattle.tables.proofs.Listed.{some_same}
 
 -- CLOSED TERMS are those in scope at depth 0
 
@@ -48,7 +48,7 @@ module _ {s : Store} {rows d : ℕ} {p : Ptr} where
 
   pub value_is : {flag : ℕ} → ValueRight s rows d p flag → (v : Ptr) → value_by flag p ≡ some v → Scoped s rows d v
   unfolding value_by
-  value_is (no_value e) v q = absurd (none_some q)
+  value_is (no_value e) v q = cc
   value_is (a_value h) v q = subst (Scoped s rows d) (some_same q) h
 
 pub from_value : {s : Store} {rows d flag r k : ℕ} {o : Option Ptr} → IsValue flag r k o → ((v : Ptr) → o ≡ some v → Scoped s rows d v) →

@@ -1,11 +1,12 @@
 -- What acceptance tests, clause by clause, on the words where they stand; ClauseLaws shows that together they are the rules' own.
 -- Assumes nothing: these are definitions.
-use Rattle.std.specs.Prelude.{ℕ, ◌+◌, ◌*◌, ◌%◌, ◌≤◌, ◌<◌, ◌≡◌, List, length, get_or}
+use Rattle.std.specs.Prelude.{ℕ, ◌+◌, ◌*◌, ◌%◌, ◌≤◌, ◌<◌, ◌≡◌, Bool, false, List, length, get_or, Result, Ok, Err, ⊤}
 use Rattle.rules.specs.Maxima.{most_levels, most_rules}
 use Rattle.rules.specs.Rows.{Ptr, ptr, blank, Store, cell_at, bound}
 use Rattle.rules.specs.Accepted.{part, IsConstructor}
-use Rattle.rows.specs.declared.row_check.Checked.{Checked}
-use Rattle.rows.specs.declared.row_check.Checked.TheVariants.{AllPass, Broken}
+use Rattle.rows.specs.declared.refusals.Refused.{Refused}
+use Rattle.rows.specs.declared.refusals.Refusal.TheVariants.{Table}
+use Rattle.rows.specs.Refusals.{refused_at}
 
 -- both slices are whole rows, and the first `rows` of them stand there
 pub record Rows (l sc : List ℕ) (rows : ℕ) : Type 0 where
@@ -68,10 +69,10 @@ pub record DeclKeeps (ds rs : List ℕ) (s : Store) (L j : ℕ) : Type 0 where
   pub words : DeclRight ds rs s L (part 16 ds j)
   pub role : RoleRight ds j (get_or ds (16 * j + 7) 0)
 
--- what is remembered of the lower declarations: 0 at a role that is free
-pub record RoleFree (seen : List ℕ) (role : ℕ) : Type 0 where
+-- what is remembered of the lower declarations: which roles are held
+pub record RoleFree (seen : List Bool) (role : ℕ) : Type 0 where
   pub code : role ≤ 15
-  pub free : (role ≡ 0 → ⊥) → get_or seen role 0 ≡ 0
+  pub free : (role ≡ 0 → ⊥) → get_or seen role false ≡ false
 
 -- A CONTEXT RECORD'S FIVE WORDS
 
@@ -81,7 +82,7 @@ pub record EntryRight (cs : List ℕ) (s : Store) (rows j : ℕ) : Type 0 where
 
 -- THE LOWEST
 
--- what is asked of each below n: it holds of all, or j is the lowest of which it does not
-pub data Upward (P : ℕ → Type 0) (n : ℕ) : Checked → Type 0 where
-  all_hold : ((i : ℕ) → i < n → P i) → Upward P n AllPass
-  fails_at : {j : ℕ} → j < n → ((i : ℕ) → i < j → P i) → (P j → ⊥) → Upward P n (Broken j)
+-- what is asked of each below n: it holds of all, or refusal 3 at the lowest of which it does not
+pub data Upward (P : ℕ → Type 0) (n : ℕ) : Result ⊤ Refused → Type 0 where
+  all_hold : ((i : ℕ) → i < n → P i) → Upward P n (Ok tt)
+  fails_at : {j : ℕ} → j < n → ((i : ℕ) → i < j → P i) → (P j → ⊥) → Upward P n (Err (refused_at Table j))

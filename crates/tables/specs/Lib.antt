@@ -1,7 +1,9 @@
 pub mod Records
 pub mod Env
 pub mod EnvLaws
+pub mod Codes
 pub mod Read
 pub mod ReadLaws
+pub mod CodeLaws
 pub mod Clauses
 pub mod Verdicts

@@ -1,32 +1,31 @@
 -- What the readers hand over by value, as the rules' own: a declaration's and a rule's words, what was found, the table of holders.
 -- Assumes nothing: these are definitions.
-use Rattle.std.specs.Prelude.{ℕ, ◌≤◌, ◌≡◌, List, eqb, length, get_or, take, drop}
+use Rattle.std.specs.Prelude.{ℕ, zero, suc, ◌≡◌, List, get_or, Option as Maybe, Some, None}
 use Rattle.std.proofs.Math.Option.{Option, none, some}
-use Rattle.rules.specs.Rows.{Ptr}
+use Rattle.rules.specs.Rows as rows
 use Rattle.rules.specs.Declarations as rules
-use Rattle.rules.specs.Declarations.{Role, role_code, holder, value_of}
-use Rattle.rows.specs.Words.{ite, ptr_of}
+use Rattle.rules.specs.Declarations.{role_code, holder, value_of}
+use Rattle.rows.specs.declared.Ptr.{Ptr}
+use Rattle.rows.specs.Words.{ptr_of}
 use Rattle.tables.specs.declared.Decl.{Decl}
 use Rattle.tables.specs.declared.Rule.{Rule}
-use Rattle.tables.specs.declared.RuleFound.{RuleFound}
-use Rattle.tables.specs.declared.RuleFound.TheVariants as rule_variants
-use Rattle.tables.specs.declared.ValueFound.{ValueFound}
-use Rattle.tables.specs.declared.ValueFound.TheVariants as value_variants
+use Rattle.tables.specs.declared.Holders.{Holders}
+use Rattle.tables.specs.declared.codes.Role.{Role}
 use Rattle.tables.specs.Env.{env_of}
+use Rattle.tables.specs.Codes.{kind_in, role_in, role_as}
 
--- a part of a list: its words, and that it has them all
-pub record Words (ws : List ℕ) (at size : ℕ) (us : List ℕ) : Type 0 where
-  pub words : us ≡ take size (drop at ws)
-  pub many : length us ≡ size
+-- a value, by its flag
+abbrev pub value_in : ℕ → Ptr → Maybe Ptr
+value_in zero p = None
+value_in (suc n) p = Some p
 
 -- sixteen words, as `decl_at` gives them
 abbrev pub decl_read : List ℕ → Decl
 decl_read ws = record {
-  kind = get_or ws 0 0;
+  kind = kind_in (get_or ws 0 0);
   levels = get_or ws 1 0;
-  valued = get_or ws 4 0;
-  value = record { row = get_or ws 5 0; shift = get_or ws 6 0 };
-  role = get_or ws 7 0;
+  value = value_in (get_or ws 4 0) (record { row = get_or ws 5 0; shift = get_or ws 6 0 });
+  role = role_in (get_or ws 7 0);
   parameters = get_or ws 8 0;
   second = get_or ws 9 0;
   minors = get_or ws 10 0;
@@ -42,25 +41,31 @@ rule_read ws = record { constructor = get_or ws 0 0; fields = get_or ws 1 0; val
 abbrev pub as_rule : Rule → rules.Rule
 as_rule ρ = record { constructor = ρ.constructor; fields = ρ.fields; value = ptr_of ρ.value }
 
-abbrev pub found_rule : RuleFound → Option rules.Rule
-found_rule (rule_variants.Found ρ) = some (as_rule ρ)
-found_rule rule_variants.NoRule = none
+-- WHAT WAS FOUND, the code's option as the rules'
 
-abbrev pub found_value : ValueFound → Option Ptr
-found_value (value_variants.Found p) = some (ptr_of p)
-found_value value_variants.NoValue = none
+abbrev pub found : {A B : Type 0} → (A → B) → Maybe A → Option B
+found f None = none
+found f (Some x) = some (f x)
 
--- what stands in the table of holders: a declaration's number, or the number that no declaration has
-abbrev pub nobody : ℕ
-nobody = 4294967295
+abbrev pub found_rule : Maybe Rule → Option rules.Rule
+found_rule = found as_rule
 
-unfoldable pub held_by : ℕ → Option ℕ
-held_by d = ite (eqb d nobody) none (some d)
+abbrev pub found_value : Maybe Ptr → Option rows.Ptr
+found_value = found ptr_of
 
--- each of the fifteen roles has its holder at its code, whatever the rules and the context are
-pub record HoldersOf (ds table : List ℕ) : Type 0 where
-  pub holds : (rs cs : List ℕ) (depth : ℕ) (ρ : Role) → 1 ≤ role_code ρ → held_by (get_or table (role_code ρ) 0) ≡ holder (env_of ds rs cs depth) ρ
+abbrev pub found_number : Maybe ℕ → Option ℕ
+found_number = found (λ n. n)
+
+-- THE HOLDERS
+
+-- the declaration that the table has for a role
+abbrev pub holder_in : Holders → Role → Maybe ℕ
+holder_in h role = get_or h.of (role_code (role_as role)) None
+
+-- each of the fifteen roles has its holder in the table, whatever the rules and the context are
+pub record HoldersOf (ds : List ℕ) (h : Holders) : Type 0 where
+  pub holds : (rs cs : List ℕ) (depth : ℕ) (role : Role) → found_number (holder_in h role) ≡ holder (env_of ds rs cs depth) (role_as role)
 
 -- the value of variable i, whatever the declarations and the rules are
-pub record ValueOf (cs : List ℕ) (depth i : ℕ) (v : Option Ptr) : Type 0 where
+pub record ValueOf (cs : List ℕ) (depth i : ℕ) (v : Option rows.Ptr) : Type 0 where
   pub value : (ds rs : List ℕ) → v ≡ value_of (env_of ds rs cs depth) i

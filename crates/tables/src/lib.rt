@@ -6,21 +6,26 @@ ghost use Rattle.rules.specs.Accepted.{part};
 ghost use Rattle.rules.specs.HeadTests.{rule_for};
 ghost use Rattle.tables.specs.Records.{records_from};
 ghost use Rattle.tables.specs.Env.{rule_of};
-ghost use Rattle.tables.specs.Read.{decl_read, rule_read, found_rule, found_value, Words, HoldersOf, ValueOf};
+ghost use Rattle.tables.specs.Read.{decl_read, rule_read, found_rule, found_value, value_in, holder_in, HoldersOf, ValueOf};
 
-use rows::Ptr;
+use rows::{Ptr, record_at};
 
 pub mod accept;
 pub mod clauses;
+pub mod codes;
+pub mod lent;
 
-// A declaration's words that the head rules read.
-#[derive(Clone, Copy)]
+pub use codes::{DeclKind, Role};
+pub use lent::{Asked, Lent};
+
+// A declaration's words that the head rules read: one record for all kinds, as the words are, since each rule asks for two or three of them.
+#[derive(Clone, Copy, Debug, PartialEq, Eq)]
 pub struct Decl {
-    pub kind: u32,
+    // none for a word that is no code
+    pub kind: Option<DeclKind>,
     pub levels: u32,
-    pub valued: u32,
-    pub value: Ptr,
-    pub role: u32,
+    pub value: Option<Ptr>,
+    pub role: Option<Role>,
     pub parameters: u32,
     // a constructor's fields, a recursor's motives, a structure type's constructor
     pub second: u32,
@@ -30,55 +35,37 @@ pub struct Decl {
     pub rules: u32,
 }
 
-#[derive(Clone, Copy)]
+#[derive(Clone, Copy, Debug, PartialEq, Eq)]
 pub struct Rule {
     pub constructor: u32,
     pub fields: u32,
     pub value: Ptr,
 }
 
-#[derive(Clone, Copy)]
-pub enum RuleFound {
-    Found(Rule),
-    NoRule,
-}
-
-#[derive(Clone, Copy)]
-pub enum ValueFound {
-    Found(Ptr),
-    NoValue,
-}
-
-// The declaration that holds each role, by the role's code; NOBODY where none does.
-pub const NOBODY: u32 = 0xffff_ffff;
-
-#[derive(Clone, Copy)]
+// The number of the declaration that holds each role, at the role's code.
+#[derive(Clone, Copy, Debug, PartialEq, Eq)]
 pub struct Holders {
-    pub of: [u32; 16],
+    of: [Option<u32>; 16],
 }
 
-// The words of one record, where they stand.
-pub fn words_at(words: &[u32], at: usize, size: usize) -> &[u32]
-    requires { at + size ≤ length words.now }
-    ensures { Words words.now at size result.now }
-{
-    &words[at..at + size]
+impl Holders {
+    pub fn holder(self, role: Role) -> Option<u32>
+        ensures { result ≡ holder_in self role }
+    {
+        self.of[role.code()]
+    }
 }
 
 pub fn decl_at(decls: &[u32], d: u32) -> Decl
     requires { 16 * d + 16 ≤ length decls.now }
     ensures { result ≡ decl_read (part 16 decls.now d) }
 {
-    let w = words_at(decls, 16 * (d as usize), 16);
+    let w = record_at::<16>(decls, 16 * d as usize);
     Decl {
-        kind: w[0],
+        kind: DeclKind::try_from(w[0]).ok(),
         levels: w[1],
-        valued: w[4],
-        value: Ptr {
-            row: w[5],
-            shift: w[6],
-        },
-        role: w[7],
+        value: value_by(w[4], w[5], w[6]),
+        role: Role::try_from(w[7]).ok(),
         parameters: w[8],
         second: w[9],
         minors: w[10],
@@ -88,11 +75,21 @@ pub fn decl_at(decls: &[u32], d: u32) -> Decl
     }
 }
 
+// A value's three words: the flag is 0 where there is none, and a word, since any may stand there.
+fn value_by(flag: u32, row: u32, shift: u32) -> Option<Ptr>
+    ensures { result ≡ value_in flag (record { row = row; shift = shift }) }
+{
+    match flag {
+        0 => None,
+        _ => Some(Ptr { row, shift }),
+    }
+}
+
 pub fn rule_at(rules: &[u32], i: usize) -> Rule
     requires { 4 * i + 4 ≤ length rules.now }
     ensures { result ≡ rule_read (part 4 rules.now i) }
 {
-    let w = words_at(rules, 4 * i, 4);
+    let w = record_at::<4>(rules, 4 * i);
     Rule {
         constructor: w[0],
         fields: w[1],
@@ -104,59 +101,45 @@ pub fn rule_at(rules: &[u32], i: usize) -> Rule
 }
 
 // The first of `count` rules from number `first` on that is for the constructor.
-pub fn rule_for(rules: &[u32], first: u32, count: u32, constructor: u32) -> RuleFound
+pub fn rule_for(rules: &[u32], first: u32, count: u32, constructor: u32) -> Option<Rule>
     requires { 4 * (first + count) ≤ length rules.now }
     ensures { found_rule result ≡ rule_for constructor (records_from 4 rules.now rule_of first count) }
 {
-    let mut i: u32 = 0;
-    while i < count {
-        let r = rule_at(rules, (first as usize) + (i as usize));
-        if r.constructor == constructor {
-            return RuleFound::Found(r);
-        }
-        i += 1;
-    }
-    RuleFound::NoRule
+    let first = first as usize;
+    (first..first + count as usize)
+        .map(|i| rule_at(rules, i))
+        .find(|rule| rule.constructor == constructor)
 }
 
 // From the last declaration down, so that the lowest holder of a role is the one that stays.
 pub fn role_holders(decls: &[u32]) -> Holders
     requires { length decls.now ≤ 65536 }
-    ensures { HoldersOf decls.now result.of }
+    ensures { HoldersOf decls.now result }
 {
-    let mut of = [NOBODY; 16];
-    let mut d = decls.len() / 16;
-    while 0 < d {
-        d -= 1;
-        let role = decls[16 * d + 7] as usize;
-        if role < 16 {
-            of[role] = d as u32;
+    let mut of = [None; 16];
+    for d in (0..decls.len() / 16).rev() {
+        if let Ok(role) = Role::try_from(decls[16 * d + 7]) {
+            of[role.code()] = Some(d as u32);
         }
     }
     Holders { of }
 }
 
 // The record of variable i, index 0 being the newest: the rules' difference, which stops at 0.
-fn record_of(depth: u32, i: u32) -> u32
+pub fn record_of(depth: u32, i: u32) -> u32
     ensures { result ≡ depth - suc i }
 {
-    if i < depth { depth - 1 - i } else { 0 }
+    depth.saturating_sub(1).saturating_sub(i)
 }
 
 // The context value of variable i.
-pub fn value_of(context: &[u32], depth: u32, i: u32) -> ValueFound
+pub fn value_of(context: &[u32], depth: u32, i: u32) -> Option<Ptr>
     requires { 5 * depth ≤ length context.now }
     ensures { ValueOf context.now depth i (found_value result) }
 {
     if depth == 0 {
-        return ValueFound::NoValue;
+        return None;
     }
-    let w = words_at(context, 5 * (record_of(depth, i) as usize), 5);
-    if w[4] == 0 {
-        return ValueFound::NoValue;
-    }
-    ValueFound::Found(Ptr {
-        row: w[2],
-        shift: w[3],
-    })
+    let w = record_at::<5>(context, 5 * record_of(depth, i) as usize);
+    value_by(w[4], w[2], w[3])
 }

@@ -3,390 +3,326 @@
 #![tactic(auto)]
 
 use rows::Ptr;
-use std::io;
-use tables::accept::Verdict;
+use rows::refusals::Refused;
+use std::{fmt, io};
+use tables::accept::accept;
+use tables::{Asked, Lent};
 
 // The list that a word is changed in.
-const LIBRARY: u32 = 0;
-
-const SCRATCH: u32 = 1;
-
-const DECLARATIONS: u32 = 2;
-
-const RULES: u32 = 3;
-
-const CONTEXT: u32 = 4;
-
-// '0' is 0, '1' is 1, and so on through the alphabet.
-fn value(letter: u8) -> u32 {
-    if letter < 48 {
-        return 0;
-    }
-    (letter as u32) - 48
+#[derive(Clone, Copy, Debug, PartialEq, Eq)]
+enum List {
+    Library = 0,
+    Scratch = 1,
+    Declarations = 2,
+    Rules = 3,
+    Context = 4,
 }
 
-// Words from their letters.
-fn lay(words: &mut [u32], at: usize, text: &[u8]) {
-    for (i, letter) in text.iter().enumerate() {
-        if words.len() <= i {
-            return;
+impl fmt::Display for List {
+    fn fmt<W: fmt::Write>(&self, f: &mut fmt::Formatter<W>) -> fmt::Result {
+        write!(f, "{}", *self as u32)
+    }
+}
+
+// Words from their letters: '0' is 0, '1' is 1, and so on through the alphabet.
+fn lay(words: &mut [u32], text: &[u8]) {
+    for (word, letter) in words.iter_mut().zip(text) {
+        *word = u32::from(letter.saturating_sub(b'0'));
+    }
+}
+
+// A small table, all right, and what is asked of it. Nothing compares or prints it.
+#[derive(Clone, Copy)]
+struct Table {
+    library: [u32; 36],
+    scratch: [u32; 27],
+    declarations: [u32; 96],
+    rules: [u32; 280],
+    context: [u32; 15],
+}
+
+const ASKED: Asked = Asked {
+    depth: 2,
+    mark: 2,
+    term: Ptr { row: 5, shift: 0 },
+    steps: 7,
+    nesting: 3,
+};
+
+impl Table {
+    fn new() -> Table {
+        let mut table = Table {
+            library: [0; 36],
+            scratch: [0; 27],
+            declarations: [0; 96],
+            rules: [9; 280],
+            context: [0; 15],
+        };
+        // sort 0; variable 0; lambda sort 0. variable 0; constant 1
+        lay(
+            &mut table.library,
+            b"100000001\
+              000000011\
+              400100002\
+              210000001",
+        );
+        // variable 1; row 4 applied to row 1 shifted 1; a row past the mark
+        lay(
+            &mut table.scratch,
+            b"010000021\
+              340110022\
+              777777777",
+        );
+        // Nat, an axiom; zero and succ, constructors; a recursor with two rules; a structure; add, a definition with 16 levels
+        lay(
+            &mut table.declarations,
+            b"0000000100000000\
+              1000000200000000\
+              1000000321000000\
+              2100000001200120\
+              3000000012000000\
+              0@00120900000000",
+        );
+        // 68 rules for zero between two that no recursor names
+        for rule in table.rules[4..276].chunks_exact_mut(4) {
+            lay(rule, b"1030");
         }
-        if words.len() - i <= at {
-            return;
+        // a type; a type and a value; a record past the depth
+        lay(
+            &mut table.context,
+            b"00000\
+              10101\
+              77777",
+        );
+        table
+    }
+
+    fn list(&mut self, list: List) -> &mut [u32] {
+        match list {
+            List::Library => &mut self.library,
+            List::Scratch => &mut self.scratch,
+            List::Declarations => &mut self.declarations,
+            List::Rules => &mut self.rules,
+            List::Context => &mut self.context,
         }
-        words[at + i] = value(*letter);
+    }
+
+    fn lent(&self) -> Lent<'_> {
+        Lent {
+            library: &self.library,
+            declarations: &self.declarations,
+            rules: &self.rules,
+            context: &self.context,
+        }
     }
 }
 
-// sort 0; variable 0; lambda sort 0. variable 0; constant 1
-fn library() -> [u32; 36] {
-    let mut w = [0u32; 36];
-    lay(&mut w, 0, b"100000001");
-    lay(&mut w, 9, b"000000011");
-    lay(&mut w, 18, b"400100002");
-    lay(&mut w, 27, b"210000001");
-    w
-}
-
-// variable 1; row 4 applied to row 1 shifted 1; a row past the mark
-fn scratch() -> [u32; 27] {
-    let mut w = [0u32; 27];
-    lay(&mut w, 0, b"010000021");
-    lay(&mut w, 9, b"340110022");
-    lay(&mut w, 18, b"777777777");
-    w
-}
-
-// Nat, an axiom; zero and succ, constructors; a recursor with two rules; a structure; add, a definition with 16 levels
-fn declarations() -> [u32; 96] {
-    let mut w = [0u32; 96];
-    lay(&mut w, 0, b"0000000100000000");
-    lay(&mut w, 16, b"1000000200000000");
-    lay(&mut w, 32, b"1000000321000000");
-    lay(&mut w, 48, b"2100000001200120");
-    lay(&mut w, 64, b"3000000012000000");
-    lay(&mut w, 80, b"0@00120900000000");
-    w
-}
-
-// 68 rules for zero between two that no recursor names
-fn rules() -> [u32; 280] {
-    let mut w = [9u32; 280];
-    for i in 1..69 {
-        lay(&mut w, 4 * i, b"1030");
-    }
-    w
-}
-
-// a type; a type and a value; a record past the depth
-fn context() -> [u32; 15] {
-    let mut w = [0u32; 15];
-    lay(&mut w, 0, b"00000");
-    lay(&mut w, 5, b"10101");
-    lay(&mut w, 10, b"77777");
-    w
-}
-
-// A place in the named list, and past the end of any other.
-fn place(named: u32, list: u32, at: usize) -> usize {
-    if named == list { at } else { 280 }
-}
-
+// Past the end there is nothing to set. The rows' program has this too: a crate for the four lines would be no plainer.
 fn set(words: &mut [u32], at: usize, value: u32) {
     if at < words.len() {
         words[at] = value;
     }
 }
 
-fn write_number(rt: &impl Print, n: u64) -> io::Result<()> {
-    print!(rt; " {n}")
-}
-
-fn write_verdict(rt: &impl Print, v: Verdict) -> io::Result<()> {
-    match v {
-        Verdict::Accepted => println!(rt; " = accepted"),
-        Verdict::Refused(number, place) => {
-            print!(rt; " = refused")?;
-            write_number(rt, number as u64)?;
-            write_number(rt, place as u64)?;
-            println!(rt)
-        }
+fn write_verdict(rt: &impl Print, verdict: Result<(), Refused>) -> io::Result<()> {
+    match verdict {
+        Ok(()) => println!(rt; " = accepted"),
+        Err(r) => println!(rt; " = refused {} {}", r.refusal.number(), r.place),
     }
 }
 
 // One word of one list is another.
-fn word_case(rt: &impl Print, list: u32, at: usize, value: u32) -> io::Result<()> {
-    let mut l = library();
-    let mut sc = scratch();
-    let mut ds = declarations();
-    let mut rs = rules();
-    let mut cs = context();
-    set(&mut l, place(list, LIBRARY, at), value);
-    set(&mut sc, place(list, SCRATCH, at), value);
-    set(&mut ds, place(list, DECLARATIONS, at), value);
-    set(&mut rs, place(list, RULES, at), value);
-    set(&mut cs, place(list, CONTEXT, at), value);
+fn word_case(rt: &impl Print, list: List, at: usize, value: u32) -> io::Result<()> {
+    let mut table = Table::new();
+    set(table.list(list), at, value);
     print!(rt; "word {list} {at} {value}")?;
-    let term = Ptr { row: 5, shift: 0 };
-    let verdict = tables::accept::accept(&l, &ds, &rs, &cs, 2, &sc, 2, term, 7, 3);
-    write_verdict(rt, verdict)
+    write_verdict(rt, accept(table.lent(), &table.scratch, ASKED))
 }
 
-// Two words of the declarations are others.
-fn pair_case(rt: &impl Print, at: usize, value: u32, other: usize, second: u32) -> io::Result<()> {
-    let l = library();
-    let sc = scratch();
-    let mut ds = declarations();
-    let rs = rules();
-    let cs = context();
-    set(&mut ds, at, value);
-    set(&mut ds, other, second);
-    print!(rt; "pair {at} {value} {other} {second}")?;
-    let term = Ptr { row: 5, shift: 0 };
-    let verdict = tables::accept::accept(&l, &ds, &rs, &cs, 2, &sc, 2, term, 7, 3);
-    write_verdict(rt, verdict)
-}
-
-// The numbers of the call are others.
-fn number_case(
-    rt: &impl Print,
-    mark: u32,
-    depth: u32,
-    term: Ptr,
-    steps: u32,
-    nesting: u32,
-) -> io::Result<()> {
-    let l = library();
-    let sc = scratch();
-    let ds = declarations();
-    let rs = rules();
-    let cs = context();
-    print!(rt;
-        "numbers {mark} {depth} {} {} {steps} {nesting}",
-        term.row, term.shift
-    )?;
-    let verdict = tables::accept::accept(&l, &ds, &rs, &cs, depth, &sc, mark, term, steps, nesting);
-    write_verdict(rt, verdict)
-}
-
-// The first words of a list alone.
-fn first(words: &[u32], n: usize) -> &[u32] {
-    if words.len() < n {
-        return words;
-    }
-    &words[0..n]
-}
-
-// The lists are cut.
-fn length_case(
-    rt: &impl Print,
-    a: usize,
-    b: usize,
-    c: usize,
-    d: usize,
-    e: usize,
-) -> io::Result<()> {
-    let l = library();
-    let sc = scratch();
-    let ds = declarations();
-    let rs = rules();
-    let cs = context();
-    print!(rt; "lengths {a} {b} {c} {d} {e}")?;
-    let term = Ptr { row: 5, shift: 0 };
-    let verdict = tables::accept::accept(
-        first(&l, a),
-        first(&ds, b),
-        first(&rs, c),
-        first(&cs, d),
-        2,
-        first(&sc, e),
-        2,
-        term,
-        7,
-        3,
-    );
-    write_verdict(rt, verdict)
-}
-
-fn many_words() -> [u32; 1048580] {
-    [0u32; 1048580]
-}
-
-fn many_zeros() -> [u32; 65552] {
-    [0u32; 65552]
-}
-
-// Kind 1, height 1.
-fn sort_word(i: usize) -> u32 {
-    if i % 9 == 0 {
-        return 1;
-    }
-    if i % 9 == 8 {
-        return 1;
-    }
-    0
-}
-
-// Rows that are sort 0, all of them.
-fn sorts(words: &mut [u32]) {
-    for (i, word) in words.iter_mut().enumerate() {
-        *word = sort_word(i);
-    }
-}
-
-// Lists of this many records, all right, at their maxima or one past.
-fn large_case(
-    rt: &impl Print,
-    rows: usize,
-    decls: usize,
-    rules: usize,
-    records: usize,
-    used: usize,
-    mark: u32,
-    depth: u32,
-) -> io::Result<()> {
-    let mut words = many_words();
-    sorts(&mut words);
-    let zeros = many_zeros();
-    print!(rt; "large {rows} {decls} {rules} {records} {used} {mark} {depth}")?;
-    let term = Ptr { row: 0, shift: 0 };
-    let verdict = tables::accept::accept(
-        first(&words, rows),
-        first(&zeros, decls),
-        first(&words, rules),
-        first(&zeros, records),
-        depth,
-        first(&words, used),
-        mark,
-        term,
-        1000000,
-        500,
-    );
-    write_verdict(rt, verdict)
-}
-
-fn values(rt: &impl Print, list: u32, at: usize) -> io::Result<()> {
-    word_case(rt, list, at, 0)?;
-    word_case(rt, list, at, 1)?;
-    word_case(rt, list, at, 2)?;
-    word_case(rt, list, at, 3)?;
-    word_case(rt, list, at, 4)?;
-    word_case(rt, list, at, 6)?;
-    word_case(rt, list, at, 15)?;
-    word_case(rt, list, at, 16)?;
-    word_case(rt, list, at, 17)?;
-    word_case(rt, list, at, 64)?;
-    word_case(rt, list, at, 65)?;
-    word_case(rt, list, at, 4294967295)
-}
-
-fn words_from(rt: &impl Print, list: u32, from: usize, to: usize) -> io::Result<()> {
-    for at in from..to {
-        values(rt, list, at)?;
+fn words(rt: &impl Print) -> io::Result<()> {
+    for (list, from, to) in [
+        (List::Declarations, 0, 96),
+        (List::Rules, 0, 12),
+        (List::Context, 0, 15),
+        (List::Library, 9, 18),
+        (List::Scratch, 9, 18),
+        (List::Scratch, 20, 21),
+    ] {
+        for at in from..to {
+            for value in [0, 1, 2, 3, 4, 6, 15, 16, 17, 64, 65, u32::MAX] {
+                word_case(rt, list, at, value)?;
+            }
+        }
     }
     Ok(())
 }
 
+// Two words of the declarations are others.
 fn pairs(rt: &impl Print) -> io::Result<()> {
-    // 64 rules and 65; the last rule and one past; a sum of 2^32
-    pair_case(rt, 61, 1, 62, 64)?;
-    pair_case(rt, 61, 1, 62, 65)?;
-    pair_case(rt, 61, 5, 62, 64)?;
-    pair_case(rt, 61, 6, 62, 64)?;
-    pair_case(rt, 61, 7, 62, 64)?;
-    pair_case(rt, 61, 70, 62, 0)?;
-    pair_case(rt, 61, 71, 62, 0)?;
-    pair_case(rt, 61, 4294967295, 62, 1)?;
-    // a role held twice, a K flag below it and above it
-    pair_case(rt, 23, 1, 60, 0)?;
-    pair_case(rt, 23, 1, 60, 1)?;
-    pair_case(rt, 87, 3, 60, 1)?;
-    pair_case(rt, 87, 3, 39, 0)?;
-    pair_case(rt, 39, 0, 87, 0)?;
-    // a value and its flag
-    pair_case(rt, 4, 1, 5, 2)?;
-    pair_case(rt, 4, 1, 5, 1)?;
-    pair_case(rt, 4, 1, 6, 1)?;
-    pair_case(rt, 84, 0, 85, 0)?;
-    pair_case(rt, 84, 0, 86, 1)
+    for (at, value, other, second) in [
+        // 64 rules and 65; the last rule and one past; a sum of 2^32
+        (61, 1, 62, 64),
+        (61, 1, 62, 65),
+        (61, 5, 62, 64),
+        (61, 6, 62, 64),
+        (61, 7, 62, 64),
+        (61, 70, 62, 0),
+        (61, 71, 62, 0),
+        (61, u32::MAX, 62, 1),
+        // a role held twice, a K flag below it and above it
+        (23, 1, 60, 0),
+        (23, 1, 60, 1),
+        (87, 3, 60, 1),
+        (87, 3, 39, 0),
+        (39, 0, 87, 0),
+        // a value and its flag
+        (4, 1, 5, 2),
+        (4, 1, 5, 1),
+        (4, 1, 6, 1),
+        (84, 0, 85, 0),
+        (84, 0, 86, 1),
+    ] {
+        let mut table = Table::new();
+        set(&mut table.declarations, at, value);
+        set(&mut table.declarations, other, second);
+        print!(rt; "pair {at} {value} {other} {second}")?;
+        write_verdict(rt, accept(table.lent(), &table.scratch, ASKED))?;
+    }
+    Ok(())
 }
 
+// The numbers of the call are others.
 fn numbers(rt: &impl Print) -> io::Result<()> {
-    let term = Ptr { row: 5, shift: 0 };
-    let closed = Ptr { row: 2, shift: 0 };
-    number_case(rt, 0, 0, closed, 0, 0)?;
-    number_case(rt, 0, 2, term, 7, 3)?;
-    number_case(rt, 1, 2, term, 7, 3)?;
-    number_case(rt, 3, 2, term, 7, 3)?;
-    number_case(rt, 4, 2, term, 7, 3)?;
-    number_case(rt, 4294967295, 2, term, 7, 3)?;
-    number_case(rt, 2, 0, term, 7, 3)?;
-    number_case(rt, 2, 1, term, 7, 3)?;
-    number_case(rt, 2, 3, term, 7, 3)?;
-    number_case(rt, 2, 4, term, 7, 3)?;
-    number_case(rt, 2, 4294967295, term, 7, 3)?;
-    number_case(rt, 2, 2, closed, 1000000, 500)?;
-    number_case(rt, 2, 2, closed, 1000001, 500)?;
-    number_case(rt, 2, 2, closed, 1000000, 501)?;
-    number_case(rt, 2, 2, Ptr { row: 2, shift: 1 }, 7, 3)?;
-    number_case(rt, 2, 2, Ptr { row: 1, shift: 1 }, 7, 3)?;
-    number_case(rt, 2, 2, Ptr { row: 1, shift: 2 }, 7, 3)?;
-    number_case(
-        rt,
-        2,
-        2,
-        Ptr {
-            row: 1,
-            shift: 4294967295,
-        },
-        7,
-        3,
-    )?;
-    number_case(rt, 2, 2, Ptr { row: 6, shift: 0 }, 7, 3)
+    for (mark, depth, row, shift, steps, nesting) in [
+        (0, 0, 2, 0, 0, 0),
+        (0, 2, 5, 0, 7, 3),
+        (1, 2, 5, 0, 7, 3),
+        (3, 2, 5, 0, 7, 3),
+        (4, 2, 5, 0, 7, 3),
+        (u32::MAX, 2, 5, 0, 7, 3),
+        (2, 0, 5, 0, 7, 3),
+        (2, 1, 5, 0, 7, 3),
+        (2, 3, 5, 0, 7, 3),
+        (2, 4, 5, 0, 7, 3),
+        (2, u32::MAX, 5, 0, 7, 3),
+        (2, 2, 2, 0, 1000000, 500),
+        (2, 2, 2, 0, 1000001, 500),
+        (2, 2, 2, 0, 1000000, 501),
+        (2, 2, 2, 1, 7, 3),
+        (2, 2, 1, 1, 7, 3),
+        (2, 2, 1, 2, 7, 3),
+        (2, 2, 1, u32::MAX, 7, 3),
+        (2, 2, 6, 0, 7, 3),
+    ] {
+        let table = Table::new();
+        let term = Ptr { row, shift };
+        let asked = Asked {
+            depth,
+            mark,
+            term,
+            steps,
+            nesting,
+        };
+        print!(rt; "numbers {mark} {depth} {row} {shift} {steps} {nesting}")?;
+        write_verdict(rt, accept(table.lent(), &table.scratch, asked))?;
+    }
+    Ok(())
 }
 
+// The first words of a list alone.
+fn first(words: &[u32], n: usize) -> &[u32] {
+    &words[..n.min(words.len())]
+}
+
+// The lists are cut.
 fn lengths(rt: &impl Print) -> io::Result<()> {
-    length_case(rt, 36, 96, 280, 15, 27)?;
-    length_case(rt, 35, 96, 280, 15, 27)?;
-    length_case(rt, 27, 96, 280, 15, 27)?;
-    length_case(rt, 36, 95, 280, 15, 27)?;
-    length_case(rt, 36, 80, 280, 15, 27)?;
-    length_case(rt, 36, 16, 280, 15, 27)?;
-    length_case(rt, 36, 0, 280, 15, 27)?;
-    length_case(rt, 36, 96, 279, 15, 27)?;
-    length_case(rt, 36, 96, 8, 15, 27)?;
-    length_case(rt, 36, 96, 12, 15, 27)?;
-    length_case(rt, 36, 96, 280, 14, 27)?;
-    length_case(rt, 36, 96, 280, 10, 27)?;
-    length_case(rt, 36, 96, 280, 5, 27)?;
-    length_case(rt, 36, 96, 280, 15, 26)?;
-    length_case(rt, 36, 96, 280, 15, 18)?;
-    length_case(rt, 36, 96, 280, 15, 9)
+    for (library, declarations, rules, context, scratch) in [
+        (36, 96, 280, 15, 27),
+        (35, 96, 280, 15, 27),
+        (27, 96, 280, 15, 27),
+        (36, 95, 280, 15, 27),
+        (36, 80, 280, 15, 27),
+        (36, 16, 280, 15, 27),
+        (36, 0, 280, 15, 27),
+        (36, 96, 279, 15, 27),
+        (36, 96, 8, 15, 27),
+        (36, 96, 12, 15, 27),
+        (36, 96, 280, 14, 27),
+        (36, 96, 280, 10, 27),
+        (36, 96, 280, 5, 27),
+        (36, 96, 280, 15, 26),
+        (36, 96, 280, 15, 18),
+        (36, 96, 280, 15, 9),
+    ] {
+        let table = Table::new();
+        print!(rt; "lengths {library} {declarations} {rules} {context} {scratch}")?;
+        let lent = Lent {
+            library: first(&table.library, library),
+            declarations: first(&table.declarations, declarations),
+            rules: first(&table.rules, rules),
+            context: first(&table.context, context),
+        };
+        write_verdict(rt, accept(lent, first(&table.scratch, scratch), ASKED))?;
+    }
+    Ok(())
 }
 
+fn many_words() -> [u32; 1048580] {
+    [0; 1048580]
+}
+
+fn many_zeros() -> [u32; 65552] {
+    [0; 65552]
+}
+
+// Rows that are sort 0, all of them: kind 1, height 1.
+fn sorts(words: &mut [u32]) {
+    for (i, word) in words.iter_mut().enumerate() {
+        *word = u32::from(i % 9 == 0 || i % 9 == 8);
+    }
+}
+
+// Lists of this many words, all right, at their maxima or one record past.
 fn maxima(rt: &impl Print) -> io::Result<()> {
-    large_case(rt, 589824, 65536, 1048576, 20480, 589824, 65536, 4096)?;
-    large_case(rt, 589833, 65536, 1048576, 20480, 589824, 65536, 4096)?;
-    large_case(rt, 589824, 65552, 1048576, 20480, 589824, 65536, 4096)?;
-    large_case(rt, 589824, 65536, 1048580, 20480, 589824, 65536, 4096)?;
-    large_case(rt, 589824, 65536, 1048576, 20485, 589824, 65536, 4096)?;
-    large_case(rt, 589824, 65536, 1048576, 20480, 589833, 65536, 4096)?;
-    large_case(rt, 589824, 65536, 1048576, 20480, 589824, 65537, 4096)?;
-    large_case(rt, 589824, 65536, 1048576, 20480, 589824, 65536, 4097)?;
-    large_case(rt, 9, 0, 0, 0, 0, 0, 0)?;
-    large_case(rt, 0, 0, 0, 0, 9, 1, 0)?;
-    large_case(rt, 0, 16, 0, 0, 9, 1, 0)?;
-    large_case(rt, 0, 0, 0, 5, 9, 1, 1)?;
-    large_case(rt, 0, 0, 0, 0, 0, 0, 0)
+    let mut words = many_words();
+    sorts(&mut words);
+    let zeros = many_zeros();
+    for (rows, decls, rules, records, used, mark, depth) in [
+        (589824, 65536, 1048576, 20480, 589824, 65536, 4096),
+        (589833, 65536, 1048576, 20480, 589824, 65536, 4096),
+        (589824, 65552, 1048576, 20480, 589824, 65536, 4096),
+        (589824, 65536, 1048580, 20480, 589824, 65536, 4096),
+        (589824, 65536, 1048576, 20485, 589824, 65536, 4096),
+        (589824, 65536, 1048576, 20480, 589833, 65536, 4096),
+        (589824, 65536, 1048576, 20480, 589824, 65537, 4096),
+        (589824, 65536, 1048576, 20480, 589824, 65536, 4097),
+        (9, 0, 0, 0, 0, 0, 0),
+        (0, 0, 0, 0, 9, 1, 0),
+        (0, 16, 0, 0, 9, 1, 0),
+        (0, 0, 0, 5, 9, 1, 1),
+        (0, 0, 0, 0, 0, 0, 0),
+    ] {
+        print!(rt; "large {rows} {decls} {rules} {records} {used} {mark} {depth}")?;
+        let lent = Lent {
+            library: first(&words, rows),
+            declarations: first(&zeros, decls),
+            rules: first(&words, rules),
+            context: first(&zeros, records),
+        };
+        let asked = Asked {
+            depth,
+            mark,
+            term: Ptr { row: 0, shift: 0 },
+            steps: 1000000,
+            nesting: 500,
+        };
+        write_verdict(rt, accept(lent, first(&words, used), asked))?;
+    }
+    Ok(())
 }
 
 fn main(rt: HostRuntime) -> io::Result<()> {
-    words_from(&rt, DECLARATIONS, 0, 96)?;
-    words_from(&rt, RULES, 0, 12)?;
-    words_from(&rt, CONTEXT, 0, 15)?;
-    words_from(&rt, LIBRARY, 9, 18)?;
-    words_from(&rt, SCRATCH, 9, 18)?;
-    words_from(&rt, SCRATCH, 20, 21)?;
+    words(&rt)?;
     pairs(&rt)?;
     numbers(&rt)?;
     lengths(&rt)?;

@@ -3,16 +3,15 @@
 #![tactic(auto)]
 
 ghost use Rattle.std.specs.Prelude.{◌≡◌, true};
-ghost use Rattle.text.specs.Feeding.{is_letter, is_digit, is_blank, with_digit, with_letter, next_line, going_on, line_ended};
-ghost use Rattle.text.specs.Feeding.{in_number, in_word, in_gap, in_comment, fed};
-ghost use Rattle.text.specs.Feeding.{stopped as stoppedAt, commented as commentedAt, ended as endedAt};
+ghost use Rattle.text.specs.Feeding.{is_digit, with_digit, with_letter, going_on, stopped, commented, line_ended, ended};
+ghost use Rattle.text.specs.Feeding.{in_number, in_word, in_gap, in_comment};
 
 // The letters of a word are digits to the base 256, the first letter in front; seven fit, as many as the longest keyword has. All
-// longer words are LONG.
+// longer words are LONG, a number that no keyword has.
 pub const LONG: u64 = 0x100_0000_0000_0000;
 
 // What is under way, and how far it is read.
-#[derive(Clone, Copy)]
+#[derive(Clone, Copy, Debug, PartialEq, Eq)]
 pub enum Part {
     Gap,
     Word(u64),
@@ -20,16 +19,15 @@ pub enum Part {
     Comment,
 }
 
-#[derive(Clone, Copy)]
+#[derive(Clone, Copy, Debug, PartialEq, Eq)]
 pub struct Reader {
     // the line's number, from 1
     pub line: u64,
     pub part: Part,
 }
 
-#[derive(Clone, Copy)]
+#[derive(Clone, Copy, Debug, PartialEq, Eq)]
 pub enum Token {
-    Nothing,
     Word(u64),
     Number(u32),
     // a number over 4,294,967,295
@@ -39,44 +37,51 @@ pub enum Token {
 }
 
 // What a byte completes: at most one token, and perhaps the line.
-#[derive(Clone, Copy)]
+#[derive(Clone, Copy, Debug, PartialEq, Eq)]
 pub struct Fed {
     pub reader: Reader,
-    pub token: Token,
+    pub token: Option<Token>,
     pub ends: bool,
 }
 
-#[derive(Clone, Copy)]
-pub enum Digits {
-    Value(u32),
-    TooLarge,
-}
+impl Default for Reader {
+    ghost use Rattle.text.specs.Feeding.{at_start};
 
-pub fn start() -> Reader {
-    Reader {
-        line: 1,
-        part: Part::Gap,
+    ghost is_default = { λ r. r ≡ at_start };
+
+    fn default() -> Reader {
+        Reader {
+            line: 1,
+            part: Part::Gap,
+        }
     }
 }
 
-// The byte of the digit 0, and the largest number that a text may have.
-const ZERO: u64 = 48;
+impl Reader {
+    ghost use Rattle.text.specs.Feeding.{fed};
 
-const LARGEST: u64 = 4294967295;
+    pub fn feed(self, b: u8) -> Fed
+        ensures { result ≡ fed self b }
+    {
+        let line = self.line;
+        match self.part {
+            Part::Gap => in_gap(line, b),
+            Part::Word(word) => in_word(line, word, b),
+            Part::Number(number) => in_number(line, number, b),
+            Part::Comment => in_comment(line, b),
+        }
+    }
+}
 
 // A word of seven letters: an eighth does not fit any more.
 const SEVEN_LETTERS: u64 = 0x1_0000_0000_0000;
 
-// One digit more, given as its byte.
-fn with_digit(number: u32, digit: u8) -> Digits
+// One digit more, given as its byte; nothing where the number is over 4,294,967,295.
+fn with_digit(number: u32, digit: u8) -> Option<u32>
     requires { is_digit digit ≡ true }
     ensures { result ≡ with_digit number digit }
 {
-    let longer = 10 * (number as u64) + (digit as u64 - ZERO);
-    if LARGEST < longer {
-        return Digits::TooLarge;
-    }
-    Digits::Value(longer as u32)
+    number.checked_mul(10)?.checked_add(u32::from(digit - b'0'))
 }
 
 // One letter more.
@@ -84,49 +89,10 @@ fn with_letter(word: u64, letter: u8) -> u64
     ensures { result ≡ with_letter word letter }
 {
     if SEVEN_LETTERS <= word {
-        return LONG;
+        LONG
+    } else {
+        256 * word + u64::from(letter)
     }
-    256 * word + (letter as u64)
-}
-
-fn is_letter(b: u8) -> bool
-    ensures { result ≡ is_letter b }
-{
-    if b < b'a' {
-        return false;
-    }
-    b <= b'z'
-}
-
-fn is_digit(b: u8) -> bool
-    ensures { result ≡ is_digit b }
-{
-    if b < b'0' {
-        return false;
-    }
-    b <= b'9'
-}
-
-fn is_blank(b: u8) -> bool
-    ensures { result ≡ is_blank b }
-{
-    if b == b' ' {
-        return true;
-    }
-    if b == b'\t' {
-        return true;
-    }
-    b == b'\r'
-}
-
-// A run of more lines than this counts is longer than any that is read.
-fn next_line(line: u64) -> u64
-    ensures { result ≡ next_line line }
-{
-    if line == u64::MAX {
-        return line;
-    }
-    line + 1
 }
 
 fn going_on(line: u64, part: Part) -> Fed
@@ -134,130 +100,88 @@ fn going_on(line: u64, part: Part) -> Fed
 {
     Fed {
         reader: Reader { line, part },
-        token: Token::Nothing,
+        token: None,
         ends: false,
     }
 }
 
-fn stopped(line: u64, token: Token) -> Fed
-    ensures { result ≡ stoppedAt line token }
+fn stopped(line: u64, token: Option<Token>) -> Fed
+    ensures { result ≡ stopped line token }
 {
     Fed {
-        reader: Reader {
-            line,
-            part: Part::Gap,
-        },
         token,
-        ends: false,
+        ..going_on(line, Part::Gap)
     }
 }
 
-fn line_ended(line: u64, token: Token) -> Fed
+fn commented(line: u64, token: Option<Token>) -> Fed
+    ensures { result ≡ commented line token }
+{
+    Fed {
+        token,
+        ..going_on(line, Part::Comment)
+    }
+}
+
+// A run of more lines than a u64 counts is longer than any that is read.
+fn line_ended(line: u64, token: Option<Token>) -> Fed
     ensures { result ≡ line_ended line token }
 {
     Fed {
-        reader: Reader {
-            line: next_line(line),
-            part: Part::Gap,
-        },
-        token,
         ends: true,
-    }
-}
-
-fn commented(line: u64, token: Token) -> Fed
-    ensures { result ≡ commentedAt line token }
-{
-    Fed {
-        reader: Reader {
-            line,
-            part: Part::Comment,
-        },
-        token,
-        ends: false,
+        ..stopped(line.saturating_add(1), token)
     }
 }
 
 // The token ends before this byte, if the byte can stand after one.
-fn ended(line: u64, token: Token, b: u8) -> Fed
-    ensures { result ≡ endedAt line token b }
+fn ended(line: u64, token: Option<Token>, b: u8) -> Fed
+    ensures { result ≡ ended line token b }
 {
-    if b == b'\n' {
-        return line_ended(line, token);
+    match b {
+        b'\n' => line_ended(line, token),
+        b'#' => commented(line, token),
+        b' ' | b'\t' | b'\r' => stopped(line, token),
+        _ => stopped(line, Some(Token::Stray)),
     }
-    if b == b'#' {
-        return commented(line, token);
-    }
-    if is_blank(b) {
-        return stopped(line, token);
-    }
-    stopped(line, Token::Stray)
 }
 
 fn in_number(line: u64, number: u32, b: u8) -> Fed
     ensures { result ≡ in_number line number b }
 {
-    if !is_digit(b) {
-        return ended(line, Token::Number(number), b);
+    if !b.is_ascii_digit() {
+        return ended(line, Some(Token::Number(number)), b);
     }
-    let longer = with_digit(number, b);
-    match longer {
-        Digits::Value(n) => {
-            return going_on(line, Part::Number(n));
-        }
-        Digits::TooLarge => {
-            return stopped(line, Token::TooLarge);
-        }
+    match with_digit(number, b) {
+        Some(longer) => going_on(line, Part::Number(longer)),
+        None => stopped(line, Some(Token::TooLarge)),
     }
 }
 
 fn in_word(line: u64, word: u64, b: u8) -> Fed
     ensures { result ≡ in_word line word b }
 {
-    if is_letter(b) {
-        return going_on(line, Part::Word(with_letter(word, b)));
+    if b.is_ascii_lowercase() {
+        going_on(line, Part::Word(with_letter(word, b)))
+    } else {
+        ended(line, Some(Token::Word(word)), b)
     }
-    ended(line, Token::Word(word), b)
 }
 
 fn in_gap(line: u64, b: u8) -> Fed
     ensures { result ≡ in_gap line b }
 {
-    if is_letter(b) {
-        return in_word(line, 0, b);
+    match b {
+        b'a'..=b'z' => in_word(line, 0, b),
+        b'0'..=b'9' => in_number(line, 0, b),
+        _ => ended(line, None, b),
     }
-    if is_digit(b) {
-        return in_number(line, 0, b);
-    }
-    ended(line, Token::Nothing, b)
 }
 
 fn in_comment(line: u64, b: u8) -> Fed
     ensures { result ≡ in_comment line b }
 {
-    if b == b'\n' {
-        return line_ended(line, Token::Nothing);
-    }
-    going_on(line, Part::Comment)
-}
-
-pub fn feed(r: Reader, b: u8) -> Fed
-    ensures { result ≡ fed r b }
-{
-    let line = r.line;
-    let part = r.part;
-    match part {
-        Part::Gap => {
-            return in_gap(line, b);
-        }
-        Part::Word(word) => {
-            return in_word(line, word, b);
-        }
-        Part::Number(number) => {
-            return in_number(line, number, b);
-        }
-        Part::Comment => {
-            return in_comment(line, b);
-        }
+    match b {
+        b'\n' => line_ended(line, None),
+        _ => going_on(line, Part::Comment),
     }
 }

@@ -25,7 +25,9 @@ module _ (n : ℕ) (h : Here) {cs : List ℕ} (sc : List ℕ) (m : Meter) (kept 
   pub res_alike : (y : Ask) → res_at n (later h cs sc m) y ≡ ran_with n (limits_at h) (env_at h) (spare_at h) y (tally_at (later h cs sc m))
   res_alike y =
       ap (λ (e : Env). ran_with n (limits_at (later h cs sc m)) e (spare_at (later h cs sc m)) y (tally_at (later h cs sc m))) (env_alike h sc m kept)
-      ∙ ap₂ (λ (a b : ℕ). ran_with n (record { steps = h.given.steps; rows = h.given.nlib + a / 9 }) (env_at h) (b / 5 - depth_at h) y (tally_at (later h cs sc m)))
+      ∙ ap₂
+      (λ (a b : ℕ).
+      ran_with n (record { steps = h.given.steps; rows = h.given.nlib + a / 9 }) (env_at h) (b / 5 - depth_at h) y (tally_at (later h cs sc m)))
       same kept.same_length
 
 -- rows were written, and the context was not

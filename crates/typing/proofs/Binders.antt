@@ -10,12 +10,14 @@ use Rattle.rules.specs.Rows.{Store, blank, node, leaf}
 use Rattle.rules.specs.Inference.{imax}
 use Rattle.inferring.specs.Asks.{Ask, answers, infers, writes, body_of, sort_of, lambda_type, pi_body, pi_type}
 use Rattle.state.specs.declared.Meter.{Meter}
-use Rattle.state.specs.declared.Reduced.{Reduced}
-use Rattle.state.specs.declared.Reduced.TheVariants.{Refused}
+use Rattle.state.specs.State.{Reduced}
 use Rattle.typing.specs.Here.{Here, later, depth_at, store_at, res_at, Ready}
 use Rattle.typing.specs.Gives.{Outcome, gave, refused, outcome_of, Gives, InAt, Infers}
 use Rattle.typing.specs.Pieces.{LevelIn}
 use Rattle.typing.proofs.Places.{At, begins, goes_on, stops, form_stops, form_by_piece, form_by_form}
+use Rattle.std.specs.Prelude.{Err}
+use Rattle.rows.specs.Refusals.{number_of}
+use Rattle.rows.specs.declared.refusals.Refusal.{Refusal}
 
 -- LAMBDA
 
@@ -31,16 +33,17 @@ module _ (n : ℕ) (h : Here) (ready : Ready h) (X b : rules.Ptr) (k : ℕ) wher
   at_lambda = begins ready
 
   module _ {In : Store → rules.Ptr → Type 0} {o : Outcome rules.Ptr} {cs sc : List ℕ} (moved : Gives In n h (body_of (store_at h) b k) o cs sc) where
-    pub lambda_body_refused : {r : Reduced} {j : ℕ} → r ≡ Refused j → o ≡ refused j → Infers n h (lambda_type (store_at h) X b k) r cs sc
+    pub lambda_body_refused : {r : Reduced} {j : Refusal} → r ≡ Err j → o ≡ refused (number_of j) → Infers n h (lambda_type (store_at h) X b k) r cs sc
     lambda_body_refused q e = form_stops q (stops moved typed at_lambda e)
 
     module _ {b₁ : rules.Ptr} {m : Meter} (e : o ≡ gave b₁ m) {In₁ : Store → rules.Ptr → Type 0} {o₁ : Outcome rules.Ptr} {cs₁ sc₁ : List ℕ}
         (under : Gives In₁ n (later h cs sc m) (infers (some X) b₁) o₁ cs₁ sc₁) where
-      pub lambda_type_refused : {r : Reduced} {j : ℕ} → r ≡ Refused j → o₁ ≡ refused j → Infers n h (lambda_type (store_at h) X b k) r cs₁ sc₁
+      pub lambda_type_refused : {r : Reduced} {j : Refusal} → r ≡ Err j → o₁ ≡ refused (number_of j) → Infers n h (lambda_type (store_at h) X b k) r cs₁ sc₁
       lambda_type_refused q e₁ = form_stops q (stops under pi_made (goes_on moved typed at_lambda e) e₁)
 
       pub lambda_answers : {B : rules.Ptr} {m₁ : Meter} → o₁ ≡ gave B m₁ → {r : Reduced} {cs₂ sc₂ : List ℕ} →
-          Gives (InAt (depth_at h)) n (later h cs₁ sc₁ m₁) (writes (node pi X B blank)) (outcome_of r) cs₂ sc₂ → Infers n h (lambda_type (store_at h) X b k) r cs₂ sc₂
+          Gives (InAt (depth_at h)) n (later h cs₁ sc₁ m₁) (writes (node pi X B blank)) (outcome_of r) cs₂ sc₂ →
+          Infers n h (lambda_type (store_at h) X b k) r cs₂ sc₂
       lambda_answers e₁ last = form_by_piece (goes_on under pi_made (goes_on moved typed at_lambda e) e₁) last
 
 -- A PI'S BODY, when the sort of its type is u
@@ -60,12 +63,12 @@ module _ (n : ℕ) (h : Here) (ready : Ready h) (X b : rules.Ptr) (k u : ℕ) wh
   at_pi_body = begins ready
 
   module _ {In : Store → rules.Ptr → Type 0} {o : Outcome rules.Ptr} {cs sc : List ℕ} (moved : Gives In n h (body_of (store_at h) b k) o cs sc) where
-    pub pi_body_refused : {r : Reduced} {j : ℕ} → r ≡ Refused j → o ≡ refused j → Infers n h (pi_body (store_at h) X b k u) r cs sc
+    pub pi_body_refused : {r : Reduced} {j : Refusal} → r ≡ Err j → o ≡ refused (number_of j) → Infers n h (pi_body (store_at h) X b k u) r cs sc
     pi_body_refused q e = form_stops q (stops moved body_typed at_pi_body e)
 
     module _ {b₁ : rules.Ptr} {m : Meter} (e : o ≡ gave b₁ m) {In₁ : Store → rules.Ptr → Type 0} {o₁ : Outcome rules.Ptr} {cs₁ sc₁ : List ℕ}
         (under : Gives In₁ n (later h cs sc m) (infers (some X) b₁) o₁ cs₁ sc₁) where
-      pub pi_body_type_refused : {r : Reduced} {j : ℕ} → r ≡ Refused j → o₁ ≡ refused j → Infers n h (pi_body (store_at h) X b k u) r cs₁ sc₁
+      pub pi_body_type_refused : {r : Reduced} {j : Refusal} → r ≡ Err j → o₁ ≡ refused (number_of j) → Infers n h (pi_body (store_at h) X b k u) r cs₁ sc₁
       pi_body_type_refused q e₁ = form_stops q (stops under sorted (goes_on moved body_typed at_pi_body e) e₁)
 
       module _ {B : rules.Ptr} {m₁ : Meter} (e₁ : o₁ ≡ gave B m₁) {o₂ : Outcome ℕ} {cs₂ sc₂ : List ℕ}
@@ -73,7 +76,7 @@ module _ (n : ℕ) (h : Here) (ready : Ready h) (X b : rules.Ptr) (k u : ℕ) wh
         at_level : At n h (res_at n h (pi_body (store_at h) X b k u)) cs₁ sc₁ m₁ (sort_of (some X) B sort_made)
         at_level = goes_on under sorted (goes_on moved body_typed at_pi_body e) e₁
 
-        pub pi_body_sort_refused : {r : Reduced} {j : ℕ} → r ≡ Refused j → o₂ ≡ refused j → Infers n h (pi_body (store_at h) X b k u) r cs₂ sc₂
+        pub pi_body_sort_refused : {r : Reduced} {j : Refusal} → r ≡ Err j → o₂ ≡ refused (number_of j) → Infers n h (pi_body (store_at h) X b k u) r cs₂ sc₂
         pi_body_sort_refused q e₂ = form_stops q (stops level sort_made at_level e₂)
 
         pub pi_body_answers : {v : ℕ} {m₂ : Meter} → o₂ ≡ gave v m₂ → {r : Reduced} {cs₃ sc₃ : List ℕ} →
@@ -92,14 +95,15 @@ module _ (n : ℕ) (h : Here) (ready : Ready h) (X b : rules.Ptr) (k : ℕ) wher
   at_pi = begins ready
 
   module _ {In : Store → rules.Ptr → Type 0} {o : Outcome rules.Ptr} {cs sc : List ℕ} (part : Gives In n h (infers none X) o cs sc) where
-    pub pi_type_refused : {r : Reduced} {j : ℕ} → r ≡ Refused j → o ≡ refused j → Infers n h (pi_type X b k) r cs sc
+    pub pi_type_refused : {r : Reduced} {j : Refusal} → r ≡ Err j → o ≡ refused (number_of j) → Infers n h (pi_type X b k) r cs sc
     pi_type_refused q e = form_stops q (stops part (λ s T. sort_of none T then_body) at_pi e)
 
-    module _ {T : rules.Ptr} {m : Meter} (e : o ≡ gave T m) {o₁ : Outcome ℕ} {cs₁ sc₁ : List ℕ} (level : Gives LevelIn n (later h cs sc m) (sort_of none T) o₁ cs₁ sc₁) where
+    module _ {T : rules.Ptr} {m : Meter} (e : o ≡ gave T m) {o₁ : Outcome ℕ} {cs₁ sc₁ : List ℕ}
+        (level : Gives LevelIn n (later h cs sc m) (sort_of none T) o₁ cs₁ sc₁) where
       at_pi_sort : At n h (res_at n h (pi_type X b k)) cs sc m (sort_of none T then_body)
       at_pi_sort = goes_on part (λ s T. sort_of none T then_body) at_pi e
 
-      pub pi_sort_refused : {r : Reduced} {j : ℕ} → r ≡ Refused j → o₁ ≡ refused j → Infers n h (pi_type X b k) r cs₁ sc₁
+      pub pi_sort_refused : {r : Reduced} {j : Refusal} → r ≡ Err j → o₁ ≡ refused (number_of j) → Infers n h (pi_type X b k) r cs₁ sc₁
       pi_sort_refused q e₁ = form_stops q (stops level then_body at_pi_sort e₁)
 
       pub pi_answers : {u : ℕ} {m₁ : Meter} → o₁ ≡ gave u m₁ → {r : Reduced} {cs₂ sc₂ : List ℕ} →

@@ -20,13 +20,14 @@ use Rattle.records.specs.Write.{cleared_from}
 use Rattle.records.proofs.Zeros.{cleared_after}
 use Rattle.state.specs.declared.Given.{Given}
 use Rattle.state.specs.declared.Meter.{Meter}
-use Rattle.state.specs.declared.Reduced.{Reduced}
-use Rattle.state.specs.declared.Reduced.TheVariants.{To, Refused}
-use Rattle.state.specs.State.{tally_of}
+use Rattle.state.specs.State.{Reduced, tally_of}
 use Rattle.cycle.proofs.Accepting.{accepted_asked}
 use Rattle.cycle.proofs.NewRows.{rows_counted, mark_moved, new_row_stands}
 use Rattle.typing.specs.Here.{Here, here, env_at, store_at, Scope, Ready}
 use Rattle.typing.specs.Gives.{outcome_of, res_by, Infers}
+use Rattle.std.specs.Prelude.{Err, Ok}
+use Rattle.rows.specs.Refusals.{number_of}
+use Rattle.rows.specs.declared.refusals.Refusal.{Refusal}
 
 module _ (l ds rs cs sc : List ℕ) (mark : ℕ) (p : Ptr) (nesting : ℕ) (g : Given) where
   abbrev lent : Lent
@@ -53,7 +54,9 @@ module _ (l ds rs cs sc : List ℕ) (mark : ℕ) (p : Ptr) (nesting : ℕ) (g : 
       unfolding infer_eval type_at
       evaluated =
           ap
-          (λ (n : ℕ). type_at (record { steps = g.steps; rows = n + length sc / 9 }) (suc nesting) (env_in lent) (spare_records lent) (tally_of l sc start.meter) (ptr_of p))
+          (λ (n : ℕ).
+          type_at (record { steps = g.steps; rows = n + length sc / 9 }) (suc nesting) (env_in lent) (spare_records lent)
+          (tally_of l sc start.meter) (ptr_of p))
           (sym rows)
           ∙ sym inferred.says
 
@@ -61,8 +64,9 @@ module _ (l ds rs cs sc : List ℕ) (mark : ℕ) (p : Ptr) (nesting : ℕ) (g : 
       records_left : {cs₂ : List ℕ} → cs₂ ≡ cleared_from (5 * g.depth) cs₁ → cs₂ ≡ take (5 * g.depth) cs ++ replicate (length cs - 5 * g.depth) 0
       records_left z = let k = inferred.keeps.context in z ∙ cleared_after lent cs₁ k.records k.same_length
 
-      pub refused_call : {k : ℕ} {sc₂ cs₂ : List ℕ} → r ≡ Refused k → sc₂ ≡ take (9 * mark) sc₁ ++ replicate (length sc₁ - 9 * mark) 0 → cs₂ ≡ cleared_from (5 * g.depth) cs₁ →
-          Infer lent (call.refused k 0) (record { mark = mark; scratch = sc₂; context = cs₂ })
+      pub refused_call : {k : Refusal} {sc₂ cs₂ : List ℕ} → r ≡ Err k → sc₂ ≡ take (9 * mark) sc₁ ++ replicate (length sc₁ - 9 * mark) 0 →
+          cs₂ ≡ cleared_from (5 * g.depth) cs₁ →
+          Infer lent (call.refused (number_of k) 0) (record { mark = mark; scratch = sc₂; context = cs₂ })
       refused_call is zeros clear =
           refuses a (infer_refused (accepted_infer_ready a) (evaluated ∙ ap (λ (x : Reduced). res_by l sc₁ (outcome_of x)) is))
           (record {
@@ -71,7 +75,7 @@ module _ (l ds rs cs sc : List ℕ) (mark : ℕ) (p : Ptr) (nesting : ℕ) (g : 
             context = records_left clear;
           })
 
-      module _ {q : Ptr} {m₁ : Meter} (is : r ≡ To q m₁) where
+      module _ {q : Ptr} {m₁ : Meter} (is : r ≡ Ok (q, m₁)) where
         pub mark_upward : mark ≤ m₁.mark
         mark_upward = (inferred.value (ptr_of q) m₁ (ap outcome_of is)).after.passed.grown.upward
 

@@ -14,13 +14,15 @@ use Rattle.safety.specs.Sane.{in_later}
 use Rattle.safety.specs.Scope.{BodyIn}
 use Rattle.inferring.specs.Asks.{Ask, untyped, answers, writes, opens, is_zero, if_loose, earlier, chosen}
 use Rattle.state.specs.declared.Meter.{Meter}
-use Rattle.state.specs.declared.Reduced.{Reduced}
-use Rattle.state.specs.declared.Reduced.TheVariants.{Refused}
+use Rattle.state.specs.State.{Reduced}
 use Rattle.typing.specs.Here.{Here, later, depth_at, store_at, res_at, Scope, Ready, After}
 use Rattle.typing.specs.Gives.{Outcome, gave, refused, Gives, GivesPtr, InAt, Infers}
 use Rattle.typing.specs.Pieces.{PiParts, PiIn, pi_ask, allowed_ask}
 use Rattle.typing.specs.Fields.{earlier_field, chosen_of}
 use Rattle.typing.proofs.Places.{At, begins, goes_on, stops, keeps_then, piece_gives, piece_stops, piece_by_piece, form_stops, form_by_piece, nothing_after}
+use Rattle.std.specs.Prelude.{Err}
+use Rattle.rows.specs.Refusals.{number_of}
+use Rattle.rows.specs.declared.refusals.Refusal.{Refusal}
 
 -- THE CHOSEN FIELD
 
@@ -33,7 +35,7 @@ module _ (n : ℕ) (h : Here) (ready : Ready h) (level : ℕ) (F : rules.Ptr) wh
   at_chosen = begins ready
 
   module _ {o : Outcome PiParts} {cs sc : List ℕ} (pi : Gives (PiIn (depth_at h)) n h (pi_ask F) o cs sc) where
-    pub chosen_refused : {r : Reduced} {k : ℕ} → r ≡ Refused k → o ≡ refused k → Infers n h (chosen_of level F) r cs sc
+    pub chosen_refused : {r : Reduced} {k : Refusal} → r ≡ Err k → o ≡ refused (number_of k) → Infers n h (chosen_of level F) r cs sc
     chosen_refused q e = form_stops q (stops pi its_type at_chosen e)
 
     pub chosen_answers : {q : PiParts} {m : Meter} → o ≡ gave q m → {r : Reduced} {cs₁ sc₁ : List ℕ} →
@@ -80,7 +82,8 @@ module _ (n : ℕ) (h : Here) (ready : Ready h) (c : ℕ) (X : rules.Ptr) (level
       at_bound next = goes_on pi (by_bound next) (at_field next) e
 
       -- the remaining body is closed: it is gone on with
-      pub not_loose : bound (store_at now) q.body ≡ 0 → {r : Outcome rules.Ptr} → r ≡ gave q.body m → Gives (InAt (depth_at h)) n h (earlier_field c X level j W) r cs sc
+      pub not_loose : bound (store_at now) q.body ≡ 0 → {r : Outcome rules.Ptr} → r ≡ gave q.body m →
+          Gives (InAt (depth_at h)) n h (earlier_field c X level j W) r cs sc
       not_loose z is =
           piece_gives is
           (λ next. subst (At n h (res_at n h (earlier_field c X level j W next)) cs sc m) (loose_not (bound (store_at now) q.body) _ _ z) (at_bound next))
@@ -89,10 +92,12 @@ module _ (n : ℕ) (h : Here) (ready : Ready h) (c : ℕ) (X : rules.Ptr) (level
       module _ (loose : bound (store_at now) q.body ≡ 0 → ⊥) where
         at_condition : (next : Store → rules.Ptr → Ask) →
             At n h (res_at n h (earlier_field c X level j W next)) cs sc m (allowed_ask (store_at now) q.type level (projected next q))
-        at_condition next = subst (At n h (res_at n h (earlier_field c X level j W next)) cs sc m) (loose_so (bound (store_at now) q.body) _ _ loose) (at_bound next)
+        at_condition next = subst (At n h (res_at n h (earlier_field c X level j W next)) cs sc m) (loose_so (bound (store_at now) q.body) _ _ loose)
+            (at_bound next)
 
         module _ {o₁ : Outcome rules.Ptr} {cs₁ sc₁ : List ℕ} (may : Gives (InAt (depth_at h)) n now (allowed_ask (store_at now) q.type level) o₁ cs₁ sc₁) where
-          pub condition_fails : {r : Outcome rules.Ptr} {k : ℕ} → r ≡ refused k → o₁ ≡ refused k → Gives (InAt (depth_at h)) n h (earlier_field c X level j W) r cs₁ sc₁
+          pub condition_fails : {r : Outcome rules.Ptr} {k : ℕ} → r ≡ refused k → o₁ ≡ refused k →
+              Gives (InAt (depth_at h)) n h (earlier_field c X level j W) r cs₁ sc₁
           condition_fails is e₁ = piece_stops is (λ next. stops may (projected next q) (at_condition next) e₁) (keeps_then (pi.value q m e).after may.keeps)
 
           module _ {p : rules.Ptr} {m₁ : Meter} (e₁ : o₁ ≡ gave p m₁) where
@@ -102,7 +107,8 @@ module _ (n : ℕ) (h : Here) (ready : Ready h) (c : ℕ) (X : rules.Ptr) (level
 
             module _ {In : Store → rules.Ptr → Type 0} {o₂ : Outcome rules.Ptr} {cs₂ sc₂ : List ℕ}
                 (row : Gives In n (later h cs₁ sc₁ m₁) (writes (node (proj c j) X blank blank)) o₂ cs₂ sc₂) where
-              pub row_refused : {r : Outcome rules.Ptr} {k : ℕ} → r ≡ refused k → o₂ ≡ refused k → Gives (InAt (depth_at h)) n h (earlier_field c X level j W) r cs₂ sc₂
+              pub row_refused : {r : Outcome rules.Ptr} {k : ℕ} → r ≡ refused k → o₂ ≡ refused k →
+                  Gives (InAt (depth_at h)) n h (earlier_field c X level j W) r cs₂ sc₂
               row_refused is e₂ =
                   piece_stops is (λ next. stops row (replaced next q) (at_row next) e₂) (keeps_then (at_row (λ s p. untyped)).after row.keeps)
 
@@ -110,14 +116,16 @@ module _ (n : ℕ) (h : Here) (ready : Ready h) (c : ℕ) (X : rules.Ptr) (level
                   Gives (InAt (depth_at h)) n (later h cs₂ sc₂ m₂) (opens (some f) q.by 0 q.body) o₃ cs₃ sc₃ →
                   Gives (InAt (depth_at h)) n h (earlier_field c X level j W) o₃ cs₃ sc₃
               field_replaced e₂ last =
-                  piece_by_piece (λ next. goes_on row (replaced next q) (at_row next) e₂) (goes_on row (replaced (λ s p. untyped) q) (at_row (λ s p. untyped)) e₂).after last
+                  piece_by_piece (λ next. goes_on row (replaced next q) (at_row next) e₂)
+                  (goes_on row (replaced (λ s p. untyped) q) (at_row (λ s p. untyped)) e₂).after last
 
 -- THE LOOP OVER THE EARLIER FIELDS
 
 -- begun at h with W, the loop stands at field j and at w: what is asked from here on comes to the answer of the start
 pub record Going (n : ℕ) (h : Here) (c : ℕ) (X : rules.Ptr) (level many : ℕ) (W : rules.Ptr) (cs sc : List ℕ) (m : Meter) (w : rules.Ptr) (j : ℕ) : Type 0 where
   pub at : (next : Store → rules.Ptr → Ask) →
-      At n h (res_at n h (earlier c X (is_zero level) 0 many (store_at h) W next)) cs sc m (earlier c X (is_zero level) j (many - j) (store_at (later h cs sc m)) w next)
+      At n h (res_at n h (earlier c X (is_zero level) 0 many (store_at h) W next)) cs sc m
+      (earlier c X (is_zero level) j (many - j) (store_at (later h cs sc m)) w next)
   pub after : After h cs sc m
   pub scope : Scope (later h cs sc m) w
   pub structure : Scope (later h cs sc m) X
@@ -134,6 +142,12 @@ module _ (n : ℕ) (h : Here) (ready : Ready h) (c : ℕ) (X : rules.Ptr) (level
   }
 
   module _ {cs sc : List ℕ} {m : Meter} {w : rules.Ptr} {j : ℕ} (k : Going n h c X level many W cs sc m w j) where
+    -- what is asked with i fields left
+    abbrev left_at : (Store → rules.Ptr → Ask) → ℕ → Type 0
+    left_at next i =
+        At n h (res_at n h (earlier c X (is_zero level) 0 many (store_at h) W next)) cs sc m
+        (earlier c X (is_zero level) j i (store_at (later h cs sc m)) w next)
+
     -- a field is left
     at_next : j < many → (next : Store → rules.Ptr → Ask) →
         At n h (res_at n h (earlier c X (is_zero level) 0 many (store_at h) W next)) cs sc m
@@ -141,9 +155,10 @@ module _ (n : ℕ) (h : Here) (ready : Ready h) (c : ℕ) (X : rules.Ptr) (level
     unfolding earlier earlier_field
     at_next l next =
         let left : many - j ≡ suc (many - suc j) = omega arith in
-        subst (λ (i : ℕ). At n h (res_at n h (earlier c X (is_zero level) 0 many (store_at h) W next)) cs sc m (earlier c X (is_zero level) j i (store_at (later h cs sc m)) w next)) left (k.at next)
+        subst (left_at next) left (k.at next)
 
-    module _ (l : j < many) {o : Outcome rules.Ptr} {cs₁ sc₁ : List ℕ} (field : Gives (InAt (depth_at h)) n (later h cs sc m) (earlier_field c X level j w) o cs₁ sc₁) where
+    module _ (l : j < many) {o : Outcome rules.Ptr} {cs₁ sc₁ : List ℕ}
+        (field : Gives (InAt (depth_at h)) n (later h cs sc m) (earlier_field c X level j w) o cs₁ sc₁) where
       abbrev rest : (Store → rules.Ptr → Ask) → Store → rules.Ptr → Ask
       rest next s p = earlier c X (is_zero level) (suc j) (many - suc j) s p next
 
@@ -168,7 +183,8 @@ module _ (n : ℕ) (h : Here) (ready : Ready h) (c : ℕ) (X : rules.Ptr) (level
     unfolding earlier
     at_end l next =
         let none_left : many - j ≡ 0 = omega arith in
-        subst (λ (i : ℕ). At n h (res_at n h (earlier c X (is_zero level) 0 many (store_at h) W next)) cs sc m (earlier c X (is_zero level) j i (store_at (later h cs sc m)) w next)) none_left (k.at next)
+        subst (left_at next) none_left (k.at next)
 
-    pub going_ends : many ≤ j → {r : Outcome rules.Ptr} → r ≡ gave w m → Gives (InAt (depth_at h)) n h (earlier c X (is_zero level) 0 many (store_at h) W) r cs sc
+    pub going_ends : many ≤ j → {r : Outcome rules.Ptr} → r ≡ gave w m →
+        Gives (InAt (depth_at h)) n h (earlier c X (is_zero level) 0 many (store_at h) W) r cs sc
     going_ends l is = piece_gives is (at_end l) k.after k.scope

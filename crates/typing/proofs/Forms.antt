@@ -8,13 +8,16 @@ use Rattle.rules.specs.Rows as rules
 use Rattle.rules.specs.Rows.{Store}
 use Rattle.inferring.specs.Asks.{Ask, answers, infers, opens, application_type, let_type}
 use Rattle.state.specs.declared.Meter.{Meter}
-use Rattle.state.specs.declared.Reduced.{Reduced}
-use Rattle.state.specs.declared.Reduced.TheVariants.{Refused}
+use Rattle.state.specs.State.{Reduced}
 use Rattle.typing.specs.Here.{Here, later, depth_at, res_at, Ready}
 use Rattle.typing.specs.Gives.{Outcome, gave, refused, outcome_of, Gives, InAt, Infers}
 use Rattle.typing.specs.Pieces.{PiParts, PiIn, pi_ask}
 use Rattle.typing.proofs.Places.{At, begins, goes_on, stops, form_stops, form_by_piece}
 use Rattle.typing.proofs.Steps.{stepped, step_on_lem, no_step}
+use Rattle.std.specs.Prelude.{Err}
+use Rattle.rows.specs.declared.refusals.Refusal.TheVariants.{NoStep}
+use Rattle.rows.specs.Refusals.{number_of}
+use Rattle.rows.specs.declared.refusals.Refusal.{Refusal}
 
 -- APPLICATION
 
@@ -27,7 +30,7 @@ module _ (n : ℕ) (h : Here) (ready : Ready h) (f a : rules.Ptr) where
   at_function = begins ready
 
   module _ {In : Store → rules.Ptr → Type 0} {o : Outcome rules.Ptr} {cs sc : List ℕ} (part : Gives In n h (infers none f) o cs sc) where
-    pub function_refused : {r : Reduced} {k : ℕ} → r ≡ Refused k → o ≡ refused k → Infers n h (application_type f a) r cs sc
+    pub function_refused : {r : Reduced} {k : Refusal} → r ≡ Err k → o ≡ refused (number_of k) → Infers n h (application_type f a) r cs sc
     function_refused q e = form_stops q (stops part (λ s T. pi_ask T argued) at_function e)
 
     module _ {T : rules.Ptr} {m : Meter} (e : o ≡ gave T m) where
@@ -35,7 +38,7 @@ module _ (n : ℕ) (h : Here) (ready : Ready h) (f a : rules.Ptr) where
       at_function_type = goes_on part (λ s T. pi_ask T argued) at_function e
 
       module _ {o₁ : Outcome PiParts} {cs₁ sc₁ : List ℕ} (pi : Gives (PiIn (depth_at h)) n (later h cs sc m) (pi_ask T) o₁ cs₁ sc₁) where
-        pub function_type_refused : {r : Reduced} {k : ℕ} → r ≡ Refused k → o₁ ≡ refused k → Infers n h (application_type f a) r cs₁ sc₁
+        pub function_type_refused : {r : Reduced} {k : Refusal} → r ≡ Err k → o₁ ≡ refused (number_of k) → Infers n h (application_type f a) r cs₁ sc₁
         function_type_refused q e₁ = form_stops q (stops pi argued at_function_type e₁)
 
         pub application_answers : {q : PiParts} {m₁ : Meter} → o₁ ≡ gave q m₁ → {r : Reduced} {cs₂ sc₂ : List ℕ} →
@@ -45,7 +48,7 @@ module _ (n : ℕ) (h : Here) (ready : Ready h) (f a : rules.Ptr) where
 -- LET
 
 module _ (n : ℕ) (h : Here) (ready : Ready h) (v b : rules.Ptr) (k : ℕ) where
-  pub no_step_for_let : h.given.steps ≤ h.meter.steps → {r : Reduced} → r ≡ Refused 4 → Infers n h (let_type v b k) r h.context h.scratch
+  pub no_step_for_let : h.given.steps ≤ h.meter.steps → {r : Reduced} → r ≡ Err NoStep → Infers n h (let_type v b k) r h.context h.scratch
   unfolding let_type
   no_step_for_let l q = form_stops q (no_step (begins ready) l)
 
@@ -59,7 +62,7 @@ module _ (n : ℕ) (h : Here) (ready : Ready h) (v b : rules.Ptr) (k : ℕ) wher
 
     module _ {In : Store → rules.Ptr → Type 0} {o : Outcome rules.Ptr} {cs sc : List ℕ}
         (replaced : Gives In n (later h h.context h.scratch (stepped h.meter)) (opens (some v) k 0 b) o cs sc) where
-      pub value_refused : {r : Reduced} {j : ℕ} → r ≡ Refused j → o ≡ refused j → Infers n h (let_type v b k) r cs sc
+      pub value_refused : {r : Reduced} {j : Refusal} → r ≡ Err j → o ≡ refused (number_of j) → Infers n h (let_type v b k) r cs sc
       value_refused q e = form_stops q (stops replaced (λ s t. infers none t λ s₁ p. answers p) at_value e)
 
       pub let_answers : {t : rules.Ptr} {m : Meter} → o ≡ gave t m → {r : Reduced} {cs₁ sc₁ : List ℕ} →

@@ -16,11 +16,13 @@ use Rattle.inferring.specs.Eval.{run}
 use Rattle.rows.specs.declared.Ptr.{Ptr}
 use Rattle.rows.specs.Words.{ptr_of}
 use Rattle.state.specs.declared.Meter.{Meter}
-use Rattle.state.specs.declared.Reduced.{Reduced}
-use Rattle.state.specs.declared.Reduced.TheVariants.{To, Refused}
+use Rattle.state.specs.State.{Reduced}
 use Rattle.cycle.proofs.Standing.{nothing_passed, passed_on}
 use Rattle.typing.specs.Here.{Here, later, depth_at, store_at, res_at, Scope, Ready, Kept, Keeps, After}
 use Rattle.typing.specs.Gives.{Outcome, gave, refused, outcome_of, then_on, Value, Gives, InAt, res_by, Infers}
+use Rattle.std.specs.Prelude.{Err, Ok}
+use Rattle.rows.specs.declared.refusals.Refusal.{Refusal}
+use Rattle.rows.specs.Refusals.{number_of}
 
 -- WHAT IS KEPT, in turn
 
@@ -30,7 +32,7 @@ nothing_kept depth cs = record { records = refl; same_length = refl }
 pub kept_then : {depth : ℕ} {cs cs₁ cs₂ : List ℕ} → Kept depth cs cs₁ → Kept depth cs₁ cs₂ → Kept depth cs cs₂
 kept_then a b = record { records = b.records ∙ a.records; same_length = b.same_length ∙ a.same_length }
 
-fewer : (xs ys : List ℕ) (a b : ℕ) → a ≤ b → take b xs ≡ take b ys → take a xs ≡ take a ys
+pub fewer : (xs ys : List ℕ) (a b : ℕ) → a ≤ b → take b xs ≡ take b ys → take a xs ≡ take a ys
 fewer xs ys a b h e = sym (take-take a b xs h) ∙ ap (take a) e ∙ take-take a b ys h
 
 module _ {h : Here} {cs sc : List ℕ} {m : Meter} (a : After h cs sc m) where
@@ -80,7 +82,7 @@ begins r = record { is = refl; after = nothing_after r }
 
 -- a function's answer, by its outcome
 pub gave_apart : {A : Type 0} {a : A} {m : Meter} {k : ℕ} → refused k ≡ gave a m → ⊥
-gave_apart q = let z : ◌≡◌ {A = ℕ} 0 1 = cc in omega arith
+gave_apart q = cc
 
 module _ {A : Type 0} {In : Store → A → Type 0} {n : ℕ} {h : Here} {res : Res} {cs sc : List ℕ} {m : Meter} {Y : (Store → A → Ask) → Ask}
     {o : Outcome A} {cs₁ sc₁ : List ℕ} (piece : Gives In n (later h cs sc m) Y o cs₁ sc₁) (next : Store → A → Ask) (at : At n h res cs sc m (Y next)) where
@@ -109,14 +111,16 @@ grows piece e = (piece.value _ _ e).after.more
 
 -- THE WAYS OUT OF A PIECE
 
-pub value_is : {A : Type 0} {In : Store → A → Type 0} {h : Here} {cs sc : List ℕ} {a b : A} {m m₁ : Meter} → After h cs sc m → In (store_at (later h cs sc m)) a → gave a m ≡ gave b m₁ → Value In h cs sc b m₁
+pub value_is : {A : Type 0} {In : Store → A → Type 0} {h : Here} {cs sc : List ℕ} {a b : A} {m m₁ : Meter} → After h cs sc m →
+    In (store_at (later h cs sc m)) a → gave a m ≡ gave b m₁ → Value In h cs sc b m₁
 value_is {A} {In} {h} {cs} {sc} {a} {b} {m} {m₁} after fit e =
     let meters : m ≡ m₁ = cc in
     let values : a ≡ b = cc in
     subst (λ (x : A). Value In h cs sc x m₁) values (subst (Value In h cs sc a) meters (record { after = after; fits = fit }))
 
 module _ {A : Type 0} {In : Store → A → Type 0} {n : ℕ} {h : Here} {Y : (Store → A → Ask) → Ask} {cs sc : List ℕ} where
-  pub piece_gives : {o : Outcome A} {a : A} {m : Meter} → o ≡ gave a m → ((next : Store → A → Ask) → At n h (res_at n h (Y next)) cs sc m (next (store_at (later h cs sc m)) a)) →
+  pub piece_gives : {o : Outcome A} {a : A} {m : Meter} → o ≡ gave a m →
+      ((next : Store → A → Ask) → At n h (res_at n h (Y next)) cs sc m (next (store_at (later h cs sc m)) a)) →
       After h cs sc m → In (store_at (later h cs sc m)) a → Gives In n h Y o cs sc
   piece_gives {o} {a} {m} q at after fit = record {
     says = λ next. sym (at next).is ∙ ap (then_on n h cs sc next) (sym q);
@@ -124,7 +128,8 @@ module _ {A : Type 0} {In : Store → A → Type 0} {n : ℕ} {h : Here} {Y : (S
     value = λ b m₁ e. value_is after fit (sym q ∙ e);
   }
 
-  pub piece_stops : {o : Outcome A} {k : ℕ} → o ≡ refused k → ((next : Store → A → Ask) → Stopped h (res_at n h (Y next)) k cs sc) → Keeps h cs sc → Gives In n h Y o cs sc
+  pub piece_stops : {o : Outcome A} {k : ℕ} → o ≡ refused k → ((next : Store → A → Ask) → Stopped h (res_at n h (Y next)) k cs sc) → Keeps h cs sc →
+      Gives In n h Y o cs sc
   piece_stops {o} {k} q stop keeps = record {
     says = λ next. sym (stop next).is ∙ ap (then_on n h cs sc next) (sym q);
     keeps = keeps;
@@ -132,8 +137,10 @@ module _ {A : Type 0} {In : Store → A → Type 0} {n : ℕ} {h : Here} {Y : (S
   }
 
 -- a piece whose last piece gives its value
-pub piece_by_piece : {A : Type 0} {In : Store → A → Type 0} {n : ℕ} {h : Here} {Y Y₁ : (Store → A → Ask) → Ask} {cs sc : List ℕ} {m : Meter} {o : Outcome A} {cs₁ sc₁ : List ℕ} →
-    ((next : Store → A → Ask) → At n h (res_at n h (Y next)) cs sc m (Y₁ next)) → After h cs sc m → Gives In n (later h cs sc m) Y₁ o cs₁ sc₁ → Gives In n h Y o cs₁ sc₁
+pub piece_by_piece : {A : Type 0} {In : Store → A → Type 0} {n : ℕ} {h : Here} {Y Y₁ : (Store → A → Ask) → Ask} {cs sc : List ℕ} {m : Meter} {o : Outcome A}
+    {cs₁ sc₁ : List ℕ} →
+    ((next : Store → A → Ask) → At n h (res_at n h (Y next)) cs sc m (Y₁ next)) → After h cs sc m → Gives In n (later h cs sc m) Y₁ o cs₁ sc₁ →
+    Gives In n h Y o cs₁ sc₁
 piece_by_piece {A} {In} {n} {h} {Y} {Y₁} {cs} {sc} {m} {o} {cs₁} {sc₁} at after last = record {
   says = λ next. sym (at next).is ∙ last.says next ∙ same o next;
   keeps = keeps_then after last.keeps;
@@ -147,7 +154,8 @@ piece_by_piece {A} {In} {n} {h} {Y} {Y₁} {cs} {sc} {m} {o} {cs₁} {sc₁} at 
 -- THE WAYS OUT OF A FORM
 
 module _ {n : ℕ} {h : Here} {y : Ask} {cs sc : List ℕ} where
-  pub form_ends : {p : Ptr} {m : Meter} → At n h (res_at n h y) cs sc m (answers (ptr_of p)) → Scope (later h cs sc m) (ptr_of p) → Infers n h y (To p m) cs sc
+  pub form_ends : {p : Ptr} {m : Meter} → At n h (res_at n h y) cs sc m (answers (ptr_of p)) → Scope (later h cs sc m) (ptr_of p) →
+      Infers n h y (Ok (p, m)) cs sc
   unfolding run
   form_ends {p} {m} at scope = record {
     says = at.is;
@@ -155,7 +163,8 @@ module _ {n : ℕ} {h : Here} {y : Ask} {cs sc : List ℕ} where
     value = λ b m₁ e. value_is {In = InAt (depth_at h)} at.after scope e;
   }
 
-  pub form_stops : {r : Reduced} {k : ℕ} → r ≡ Refused k → Stopped h (res_at n h y) k cs sc → Infers n h y r cs sc
+  pub form_stops : {r : Reduced} {k : Refusal} → r ≡ Err k → Stopped h (res_at n h y) (number_of k) cs sc →
+      Infers n h y r cs sc
   form_stops {r} {k} q stop = record {
     says = ap (λ (x : Reduced). res_by h.library sc (outcome_of x)) q ∙ stop.is;
     keeps = stop.keeps;
@@ -165,8 +174,8 @@ module _ {n : ℕ} {h : Here} {y : Ask} {cs sc : List ℕ} where
 -- a form whose last piece gives its answer
 pub form_by_piece : {n : ℕ} {h : Here} {y : Ask} {cs sc : List ℕ} {m : Meter} {Y : (Store → rules.Ptr → Ask) → Ask} {r : Reduced} {cs₁ sc₁ : List ℕ} →
     At n h (res_at n h y) cs sc m (Y (λ s p. answers p)) → Gives (InAt (depth_at h)) n (later h cs sc m) Y (outcome_of r) cs₁ sc₁ → Infers n h y r cs₁ sc₁
-form_by_piece {n} {h} {y} {r = To p m₁} at piece = form_ends (goes_on piece _ at refl) (fits piece refl)
-form_by_piece {n} {h} {y} {r = Refused k} at piece = form_stops refl (stops piece _ at refl)
+form_by_piece {n} {h} {y} {r = Ok (p, m₁)} at piece = form_ends (goes_on piece _ at refl) (fits piece refl)
+form_by_piece {n} {h} {y} {r = Err k} at piece = form_stops refl (stops piece _ at refl)
 
 -- a form that is another form from here on
 pub form_by_form : {n : ℕ} {h : Here} {y y₁ : Ask} {cs sc : List ℕ} {m : Meter} {r : Reduced} {cs₁ sc₁ : List ℕ} →

@@ -52,7 +52,8 @@ module _ (n : ℕ) (h : Here) (ready : Ready h) (p : rules.Ptr) where
   abbrev s : Store
   s = store_at h
 
-  pub no_condition_asked : (level : ℕ) → (level ≡ 0 → ⊥) → Scope h p → Gives (InAt (depth_at h)) n h (allowed_ask s p level) (gave p h.meter) h.context h.scratch
+  pub no_condition_asked : (level : ℕ) → (level ≡ 0 → ⊥) → Scope h p →
+      Gives (InAt (depth_at h)) n h (allowed_ask s p level) (gave p h.meter) h.context h.scratch
   unfolding allowed_ask allowed
   no_condition_asked zero f i = absurd (f refl)
   no_condition_asked (suc level) f i = piece_gives refl (λ next. begins ready) (begins {n = n} {y = untyped} ready).after i
@@ -67,12 +68,15 @@ module _ (n : ℕ) (h : Here) (ready : Ready h) (p : rules.Ptr) where
     condition_refused zero q e = piece_stops refl (λ next. stops asks (λ s₁ l. if_true (is_zero l) (next s₁ p)) (at_answer next) e) asks.keeps
     condition_refused (suc level) q e = absurd (omega arith)
 
-    pub not_a_proposition : (level l : ℕ) {m : Meter} → level ≡ 0 → o ≡ gave l m → (l ≡ 0 → ⊥) → Gives (InAt (depth_at h)) n h (allowed_ask s p level) (refused 9) cs sc
+    pub not_a_proposition : (level l : ℕ) {m : Meter} → level ≡ 0 → o ≡ gave l m → (l ≡ 0 → ⊥) →
+        Gives (InAt (depth_at h)) n h (allowed_ask s p level) (refused 9) cs sc
     not_a_proposition (suc level) l q e f = absurd (omega arith)
     not_a_proposition zero zero q e f = absurd (f refl)
-    not_a_proposition zero (suc l) q e f = piece_stops refl (λ next. no_type (goes_on asks (λ s₁ l. if_true (is_zero l) (next s₁ p)) (at_answer next) e)) asks.keeps
+    not_a_proposition zero (suc l) q e f =
+        piece_stops refl (λ next. no_type (goes_on asks (λ s₁ l. if_true (is_zero l) (next s₁ p)) (at_answer next) e)) asks.keeps
 
-    pub a_proposition : (level l : ℕ) {m : Meter} → level ≡ 0 → o ≡ gave l m → l ≡ 0 → Scope h p → Gives (InAt (depth_at h)) n h (allowed_ask s p level) (gave p m) cs sc
+    pub a_proposition : (level l : ℕ) {m : Meter} → level ≡ 0 → o ≡ gave l m → l ≡ 0 → Scope h p →
+        Gives (InAt (depth_at h)) n h (allowed_ask s p level) (gave p m) cs sc
     a_proposition (suc level) l q e z i = absurd (omega arith)
     a_proposition zero (suc l) q e z i = absurd (omega arith)
     a_proposition zero zero {m} q e z i =

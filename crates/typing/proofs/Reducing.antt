@@ -13,8 +13,7 @@ use Rattle.inferring.specs.Eval.{run, type_at}
 use Rattle.rows.specs.declared.Ptr.{Ptr}
 use Rattle.rows.specs.Words.{ptr_of}
 use Rattle.state.specs.declared.Meter.{Meter}
-use Rattle.state.specs.declared.Reduced.{Reduced}
-use Rattle.state.specs.declared.Reduced.TheVariants.{To, Refused}
+use Rattle.state.specs.State.{Reduced}
 use Rattle.cycle.specs.Cycle.{Asked, Ran, res_as}
 use Rattle.cycle.proofs.Standing.{after_side, ran_passed}
 use Rattle.typing.specs.Here.{Here, later, depth_at, env_at, store_at, tally_at, limits_at, spare_at, res_at, Scope, Ready, Keeps}
@@ -22,6 +21,8 @@ use Rattle.typing.specs.Gives.{Outcome, gave, refused, outcome_of, then_on, Valu
 use Rattle.typing.specs.Pieces.{ran_with}
 use Rattle.typing.proofs.Places.{gave_apart, nothing_kept, value_is}
 use Rattle.typing.proofs.Alike.{res_alike, after_rows}
+use Rattle.std.specs.Prelude.{Err, Ok}
+use Rattle.rows.specs.Refusals.{number_of}
 
 -- what follows an answer, here
 abbrev pub followed : ℕ → Here → (Store → rules.Ptr → Ask) → Res → Res
@@ -52,8 +53,8 @@ pub may_reduce : {h : Here} {p : Ptr} → Ready h → Scope h (ptr_of p) → Ask
 may_reduce r s = record { stand = r.stand; scope = s }
 
 res_as_lem : (r : Reduced) (l sc : List ℕ) → res_by l sc (outcome_of r) ≡ res_as r l sc
-res_as_lem (To p m) l sc = refl
-res_as_lem (Refused k) l sc = refl
+res_as_lem (Ok (p, m)) l sc = refl
+res_as_lem (Err k) l sc = refl
 
 module _ (n : ℕ) (h : Here) (ready : Ready h) {p : Ptr} (scope : Scope h (ptr_of p)) {r : Reduced} {sc : List ℕ}
     (ran : Ran h.library h.scratch h.meter r sc (side_at (env_at h) (limits_at h) n (tally_at h) (ptr_of p))) where
@@ -65,7 +66,8 @@ module _ (n : ℕ) (h : Here) (ready : Ready h) {p : Ptr} (scope : Scope h (ptr_
 
 -- the term of a reduction stands, and may be used
 pub reduced_after : (n : ℕ) (h : Here) (ready : Ready h) {p q : Ptr} {m : Meter} {sc : List ℕ} → Scope h (ptr_of p) →
-    Ran h.library h.scratch h.meter (To q m) sc (side_at (env_at h) (limits_at h) n (tally_at h) (ptr_of p)) → Value (InAt (depth_at h)) h h.context sc (ptr_of q) m
+    Ran h.library h.scratch h.meter (Ok (q, m)) sc (side_at (env_at h) (limits_at h) n (tally_at h) (ptr_of p)) →
+    Value (InAt (depth_at h)) h h.context sc (ptr_of q) m
 reduced_after n h ready scope ran =
     let k = after_side ready.stand n scope ran in
     record {
@@ -75,11 +77,13 @@ reduced_after n h ready scope ran =
 
 pub side_gives : (n : ℕ) (h : Here) (ready : Ready h) {p : Ptr} → Scope h (ptr_of p) → (r : Reduced) {sc : List ℕ} →
     Ran h.library h.scratch h.meter r sc (side_at (env_at h) (limits_at h) n (tally_at h) (ptr_of p)) → GivesPtr n h (reduces none (ptr_of p)) r h.context sc
-side_gives n h ready {p} scope (To q m) ran =
-    answer_gives n h (InAt (depth_at h)) (reduces none (ptr_of p)) _ (reduces_is n h (ptr_of p)) (gave (ptr_of q) m) ran.says (reduced_keeps n h ready scope ran)
+side_gives n h ready {p} scope (Ok (q, m)) ran =
+    answer_gives n h (InAt (depth_at h)) (reduces none (ptr_of p)) _ (reduces_is n h (ptr_of p)) (gave (ptr_of q) m) ran.says
+    (reduced_keeps n h ready scope ran)
     (λ b m₁ e. let v = reduced_after n h ready scope ran in value_is v.after v.fits e)
-side_gives n h ready {p} scope (Refused k) ran =
-    answer_gives n h (InAt (depth_at h)) (reduces none (ptr_of p)) _ (reduces_is n h (ptr_of p)) (refused k) ran.says (reduced_keeps n h ready scope ran)
+side_gives n h ready {p} scope (Err k) ran =
+    answer_gives n h (InAt (depth_at h)) (reduces none (ptr_of p)) _ (reduces_is n h (ptr_of p)) (refused (number_of k)) ran.says
+    (reduced_keeps n h ready scope ran)
     (λ b m₁ e. absurd (gave_apart e))
 
 -- A PART
@@ -100,8 +104,10 @@ answered n h cs sc (gave p m) = refl
 answered n h cs sc (refused k) = refl
 
 -- the type itself, from what the part gives
-pub part_is : (n : ℕ) (h : Here) (t : rules.Ptr) {In : Store → rules.Ptr → Type 0} {o : Outcome rules.Ptr} {cs sc : List ℕ} → Gives In n h (infers none t) o cs sc →
+pub part_is : (n : ℕ) (h : Here) (t : rules.Ptr) {In : Store → rules.Ptr → Type 0} {o : Outcome rules.Ptr} {cs sc : List ℕ} →
+    Gives In n h (infers none t) o cs sc →
     res_by h.library sc o ≡ type_at (limits_at h) n (env_at h) (spare_at h) (tally_at h) t
 unfolding run
 part_is n h t {o = o} {cs} {sc} g =
-    sym (answered n h cs sc o) ∙ sym (g.says (λ s p. answers p)) ∙ infers_is n h t (λ s p. answers p) ∙ ok_follows (type_at (limits_at h) n (env_at h) (spare_at h) (tally_at h) t)
+    sym (answered n h cs sc o) ∙ sym (g.says (λ s p. answers p)) ∙ infers_is n h t (λ s p. answers p)
+    ∙ ok_follows (type_at (limits_at h) n (env_at h) (spare_at h) (tally_at h) t)

@@ -12,12 +12,13 @@ use Rattle.course.specs.Eval.{Res, no}
 use Rattle.inferring.specs.Asks.{Ask, step_then, infers, untyped, asks}
 use Rattle.inferring.specs.Eval.{run, step_on, type_at}
 use Rattle.state.specs.declared.Meter.{Meter}
-use Rattle.state.specs.declared.Reduced.{Reduced}
-use Rattle.state.specs.declared.Reduced.TheVariants.{Refused}
+use Rattle.state.specs.State.{Reduced}
 use Rattle.typing.specs.Here.{Here, later, depth_at, env_at, store_at, res_at, Ready, After}
 use Rattle.typing.specs.Gives.{refused, outcome_of, GivesPtr, InAt, Infers}
 use Rattle.typing.proofs.Places.{At, Stopped, after_then, after_keeps, nothing_after, nothing_keeps, gave_apart}
 use Rattle.typing.proofs.Reducing.{answer_gives, infers_is}
+use Rattle.std.specs.Prelude.{Err}
+use Rattle.rows.specs.declared.refusals.Refusal.TheVariants.{NoLevel}
 
 -- A STEP
 
@@ -84,7 +85,7 @@ at_as {n} {h} {res} {cs} {sc} {m} e at = subst (At n h res cs sc m) e at
 -- A PART
 
 -- no level is left
-pub part_too_deep : (n : ℕ) (h : Here) (t : rules.Ptr) → n ≡ 0 → GivesPtr n h (infers none t) (Refused 6) h.context h.scratch
+pub part_too_deep : (n : ℕ) (h : Here) (t : rules.Ptr) → n ≡ 0 → GivesPtr n h (infers none t) (Err NoLevel) h.context h.scratch
 unfolding type_at
 part_too_deep zero h t q =
     answer_gives zero h (InAt (depth_at h)) (infers none t) _ (infers_is zero h t) (refused 6) refl (nothing_keeps h) (λ p m e. absurd (gave_apart e))

@@ -5,8 +5,7 @@ use native.Mathlib.Omega.{arith}
 use mathlib.Core.Path.{◌≡◌, refl, sym, ap, ◌∙◌, subst}
 use mathlib.Core.List.{List}
 use mathlib.Core.Option.{none, some}
-use lib.ListN.{length, take}
-use lib.Seq.{take-take}
+use lib.ListN.{length}
 use Rattle.rules.specs.Rows as rules
 use Rattle.rules.specs.Rows.{Store}
 use Rattle.rules.specs.RowCheck.{InScope}
@@ -23,27 +22,30 @@ use Rattle.records.proofs.Words.{push_keeps, push_length}
 use Rattle.records.proofs.Contexts.{env_pushed}
 use Rattle.cycle.proofs.Standing.{depth_is}
 use Rattle.state.specs.declared.Meter.{Meter}
-use Rattle.state.specs.declared.Reduced.{Reduced}
-use Rattle.state.specs.declared.Reduced.TheVariants.{Refused}
+use Rattle.state.specs.State.{Reduced}
 use Rattle.typing.specs.Here.{Here, later, depth_at, env_at, store_at, tally_at, limits_at, spare_at, res_at, Scope, Ready, Kept, Keeps, After}
 use Rattle.typing.specs.Gives.{gave, refused, outcome_of, Value, GivesPtr, InAt, res_by}
 use Rattle.typing.specs.Pieces.{within, Entered, UnderGives}
-use Rattle.typing.proofs.Places.{nothing_keeps, gave_apart}
+use Rattle.typing.proofs.Places.{fewer, nothing_keeps, gave_apart}
 use Rattle.typing.proofs.Alike.{env_alike, after_rows}
 use Rattle.typing.proofs.Reducing.{followed, answer_gives, part_is}
+use Rattle.std.specs.Prelude.{Err}
+use Rattle.rows.specs.declared.refusals.Refusal.TheVariants.{NoRecord}
 
 -- what is asked outside
 under_is : (n : ℕ) (h : Here) (X b : rules.Ptr) (next : Store → rules.Ptr → Ask) →
-    res_at n h (infers (some X) b next) ≡ followed n h next (part_on (env_at h) (λ e r m t. type_at (limits_at h) n e r m t) (some X) (spare_at h) (tally_at h) b)
+    res_at n h (infers (some X) b next) ≡ followed n h next
+    (part_on (env_at h) (λ e r m t. type_at (limits_at h) n e r m t) (some X) (spare_at h) (tally_at h) b)
 unfolding run
 under_is n h X b next = refl
 
 -- NONE IS SPARE
 
 module _ (n : ℕ) (h : Here) (X b : rules.Ptr) where
-  pub no_record_spare : length h.context < 5 * depth_at h + 5 → UnderGives n h X b (Refused 11) h.context h.scratch
+  pub no_record_spare : length h.context < 5 * depth_at h + 5 → UnderGives n h X b (Err NoRecord) h.context h.scratch
   no_record_spare full = record {
-    gives = answer_gives n h (InAt (suc (depth_at h))) (infers (some X) b) _ (under_is n h X b) (refused 11) refused_so (nothing_keeps h) (λ p m e. absurd (gave_apart e));
+    gives = answer_gives n h (InAt (suc (depth_at h))) (infers (some X) b) _ (under_is n h X b) (refused 11) refused_so (nothing_keeps h)
+        (λ p m e. absurd (gave_apart e));
     entered = λ p m e. absurd (gave_apart e);
   }
     where
@@ -79,7 +81,6 @@ module _ (n : ℕ) (h : Here) (ready : Ready h) (X b : Ptr) (type_in : Scope h (
       sane = typed_inside.sane;
       tabled = record {
         rules = ready.stand.tabled.rules;
-        roles = ready.stand.tabled.roles;
         records = omega (arith, as_long, room);
         holders = ready.stand.tabled.holders;
       };
@@ -93,22 +94,18 @@ module _ (n : ℕ) (h : Here) (ready : Ready h) (X b : Ptr) (type_in : Scope h (
 
   -- what the part answered, seen from outside
   module _ (r : Reduced) {cs₁ sc₁ : List ℕ} (part : GivesPtr n inner (infers none (ptr_of b)) r cs₁ sc₁) where
-    fewer : take (5 * depth_at h) cs₁ ≡ take (5 * depth_at h) cs
-    fewer =
-        sym (take-take (5 * depth_at h) (5 * suc (depth_at h)) cs₁ (omega arith))
-        ∙ ap (take (5 * depth_at h)) part.keeps.context.records
-        ∙ take-take (5 * depth_at h) (5 * suc (depth_at h)) cs (omega arith)
-
     kept : Kept (depth_at h) h.context cs₁
     kept = record {
-      records = fewer ∙ push_keeps h.context cs (depth_at h) X room is_pushed;
+      records = fewer cs₁ cs (5 * depth_at h) (5 * suc (depth_at h)) (omega arith) part.keeps.context.records
+          ∙ push_keeps h.context cs (depth_at h) X room is_pushed;
       same_length = part.keeps.context.same_length ∙ as_long;
     }
 
     keeps : Keeps h cs₁ sc₁
     keeps = record { kept = part.keeps.kept; same_length = part.keeps.same_length; context = kept }
 
-    answered : res_by h.library sc₁ (outcome_of r) ≡ part_on (env_at h) (λ e r m t. type_at (limits_at h) n e r m t) (some (ptr_of X)) (spare_at h) (tally_at h) (ptr_of b)
+    answered : res_by h.library sc₁ (outcome_of r) ≡ part_on (env_at h) (λ e r m t. type_at (limits_at h) n e r m t) (some (ptr_of X)) (spare_at h)
+        (tally_at h) (ptr_of b)
     answered =
         let less : spare_at h ≡ suc (spare_at inner) = omega (arith, as_long, room) in
         part_is n inner (ptr_of b) part
@@ -136,7 +133,6 @@ module _ (n : ℕ) (h : Here) (ready : Ready h) (X b : Ptr) (type_in : Scope h (
                   sane = typed.sane;
                   tabled = record {
                     rules = a.ready.stand.tabled.rules;
-                    roles = a.ready.stand.tabled.roles;
                     records = omega (arith, kept.same_length, room);
                     holders = a.ready.stand.tabled.holders;
                   };
@@ -166,6 +162,7 @@ module _ (n : ℕ) (h : Here) (ready : Ready h) (X b : Ptr) (type_in : Scope h (
 
     pub under_gives : UnderGives n h (ptr_of X) (ptr_of b) r cs₁ sc₁
     under_gives = record {
-      gives = answer_gives n h (InAt (suc (depth_at h))) (infers (some (ptr_of X)) (ptr_of b)) _ (under_is n h (ptr_of X) (ptr_of b)) (outcome_of r) answered keeps value_outside;
+      gives = answer_gives n h (InAt (suc (depth_at h))) (infers (some (ptr_of X)) (ptr_of b)) _ (under_is n h (ptr_of X) (ptr_of b)) (outcome_of r) answered
+          keeps value_outside;
       entered = entered_still;
     }

@@ -2,7 +2,6 @@
 -- Assumes what a member is given.
 use Prim.Native.Nat.{ℕ}
 use native.Mathlib.Nat.{le_refl}
-use native.Mathlib.Omega.{arith}
 use mathlib.Core.Path.{◌≡◌, refl, sym, ap, ◌∙◌, subst}
 use mathlib.Core.List.{List}
 use mathlib.Core.Option.{Option, none, some}
@@ -28,31 +27,31 @@ use Rattle.ways.specs.Stages.{put_at}
 use Rattle.inferring.specs.Asks.{Ask, writes, opens}
 use Rattle.inferring.specs.Eval.{run, charged_on, opened_on}
 use Rattle.inferring.specs.Scope.{put_scope}
-use Rattle.rows.specs.declared.Out.{Out}
-use Rattle.rows.specs.declared.Out.TheVariants.{Done, Refused}
+use Rattle.rows.specs.Refusals.{Out}
 use Rattle.rows.specs.declared.Shape.{Shape}
 use Rattle.rows.specs.Words.{ptr_of, row_of, store_of}
 use Rattle.rows.specs.Writes.{Wrote}
 use Rattle.replace.proofs.Later.{held_room}
 use Rattle.replace.proofs.Comes.{came}
 use Rattle.state.specs.declared.Meter.{Meter}
-use Rattle.state.specs.declared.Reduced.{Reduced}
+use Rattle.state.specs.State.{Reduced}
 use Rattle.typing.specs.Here.{Here, depth_at, env_at, store_at, tally_at, limits_at, spare_at, res_at, Ready, Keeps, After}
 use Rattle.typing.specs.Gives.{outcome_of, Gives, InAt}
 use Rattle.typing.specs.Pieces.{ran_with}
 use Rattle.typing.specs.Written.{reduced_by, Written, Writable}
 use Rattle.typing.proofs.Places.{nothing_kept, piece_gives, piece_stops}
 use Rattle.typing.proofs.Alike.{res_alike, after_rows}
+use Rattle.std.specs.Prelude.{Err, Ok}
 
 -- ROWS THAT WERE CHARGED
 
 settled_wrote : (g g' : Got) (c : Option ℕ) → course.wrote g' ≡ settle_on g c → (c ≡ none) × (g' ≡ g)
 settled_wrote g g' none q = (refl, cc)
-settled_wrote g g' (some k) q = absurd (let z : ◌≡◌ {A = ℕ} 0 1 = cc in omega arith)
+settled_wrote g g' (some k) q = cc
 
 settled_refused : (g : Got) (c : Option ℕ) {k : ℕ} → course.refused k ≡ settle_on g c → c ≡ some k
-settled_refused g none q = absurd (let z : ◌≡◌ {A = ℕ} 0 1 = cc in omega arith)
-settled_refused g (some j) {k} q = let z : j ≡ k = cc in ap some z
+settled_refused g none q = cc
+settled_refused g (some j) q = cc
 
 -- what rows leave that may stand
 pub record Stage (D : ℕ) (In : Store → rules.Ptr → Type 0) (s : Store) (g : Got) : Type 0 where
@@ -62,14 +61,15 @@ pub record Stage (D : ℕ) (In : Store → rules.Ptr → Type 0) (s : Store) (g 
 
 module _ (n : ℕ) (h : Here) (ready : Ready h) (In : Store → rules.Ptr → Type 0) (Y : (Store → rules.Ptr → Ask) → Ask) (g : Got)
     (is : (next : Store → rules.Ptr → Ask) →
-    res_at n h (Y next) ≡ charged_on (λ m₁ p. ran_with n (limits_at h) (env_at h) (spare_at h) (next m₁.store p) m₁) (tally_at h) g (charge (limits_at h) (store_at h) g.store))
+    res_at n h (Y next) ≡ charged_on (λ m₁ p. ran_with n (limits_at h) (env_at h) (spare_at h) (next m₁.store p) m₁) (tally_at h) g
+    (charge (limits_at h) (store_at h) g.store))
     (stage : charge (limits_at h) (store_at h) g.store ≡ none → Stage (decl_count (env_at h)) In (store_at h) g) where
   abbrev charged : Option ℕ
   charged = charge (limits_at h) (store_at h) g.store
 
   by_answer : {sc : List ℕ} (o : Out) → Wrote h.library h.scratch h.meter.mark o sc (settle_on g charged) →
       Gives In n h Y (outcome_of (reduced_by h.meter.steps o)) h.context sc
-  by_answer {sc} (Done p mark) w =
+  by_answer {sc} (Ok (p, mark)) w =
       let m : Meter = record { mark = mark; steps = h.meter.steps } in
       let said = settled_wrote g (got (store_of h.library sc mark) (ptr_of p)) charged w.says in
       let st = subst (Stage (decl_count (env_at h)) In (store_at h)) (sym said.1) (stage said.0) in
@@ -86,7 +86,7 @@ module _ (n : ℕ) (h : Here) (ready : Ready h) (In : Store → rules.Ptr → Ty
       })
       after
       st.fits
-  by_answer {sc} (Refused k) w =
+  by_answer {sc} (Err k) w =
       let keeps : Keeps h h.context sc = record { kept = w.kept; same_length = w.same_length; context = nothing_kept (depth_at h) h.context } in
       piece_stops refl
       (λ next. record {
@@ -120,7 +120,8 @@ module _ (n : ℕ) (h : Here) (ready : Ready h) (w : Shape) (may : Writable h w)
 
   row_stage : charge (limits_at h) s (put s (row_of w)).store ≡ none → Stage (decl_count (env_at h)) (InAt (depth_at h)) s (put s (row_of w))
   row_stage c =
-      let wrote : put_in (limits_at h).rows s (row_of w) ≡ course.wrote (put s (row_of w)) = put_settles (limits_at h) s (row_of w) ∙ ap (settle_on (put s (row_of w))) c in
+      let wrote : put_in (limits_at h).rows s (row_of w) ≡ course.wrote (put s (row_of w)) =
+      put_settles (limits_at h) s (row_of w) ∙ ap (settle_on (put s (row_of w))) c in
       let fit = (put_at (limits_at h).rows s (row_of w) wrote).fit in
       record {
         more = ext_put s (cell s (row_of w));
@@ -131,7 +132,8 @@ module _ (n : ℕ) (h : Here) (ready : Ready h) (w : Shape) (may : Writable h w)
   pub row_gives : {r : Reduced} {sc : List ℕ} → Written h.library h.scratch h.meter r sc (put_in (limits_at h).rows s (row_of w)) →
       Gives (InAt (depth_at h)) n h (writes (row_of w)) (outcome_of r) h.context sc
   unfolding run
-  row_gives k = written_gives n h ready (InAt (depth_at h)) (writes (row_of w)) (put s (row_of w)) (λ next. refl) row_stage k (put_settles (limits_at h) s (row_of w))
+  row_gives k = written_gives n h ready (InAt (depth_at h)) (writes (row_of w)) (put s (row_of w)) (λ next. refl) row_stage k
+      (put_settles (limits_at h) s (row_of w))
 
 -- A REPLACEMENT
 
@@ -147,7 +149,8 @@ module _ (n : ℕ) (h : Here) (ready : Ready h) (In : Store → rules.Ptr → Ty
   pub opening_gives : {r : Reduced} {sc : List ℕ} → Written h.library h.scratch h.meter r sc (replace_in (limits_at h).rows v k height c here_store b) →
       Gives In n h (opens v k c b) (outcome_of r) h.context sc
   unfolding run
-  opening_gives {r} {sc} w = go (replace_by v k height c here_store b) refl ((reaches v k height).at c here_store b (pass_formed ready.stand.sane.pass) good value (le_refl _))
+  opening_gives {r} {sc} w = go (replace_by v k height c here_store b) refl
+      ((reaches v k height).at c here_store b (pass_formed ready.stand.sane.pass) good value (le_refl _))
     where
       go : (x : Option Got) → replace_by v k height c here_store b ≡ x → Found x → Gives In n h (opens v k c b) (outcome_of r) h.context sc
       go none e there = elim there [ ]

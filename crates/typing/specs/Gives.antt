@@ -8,10 +8,10 @@ use Rattle.course.specs.Eval.{Res, ok, no}
 use Rattle.inferring.specs.Asks.{Ask}
 use Rattle.rows.specs.Words.{ptr_of}
 use Rattle.state.specs.declared.Meter.{Meter}
-use Rattle.state.specs.declared.Reduced.{Reduced}
-use Rattle.state.specs.declared.Reduced.TheVariants.{To, Refused}
-use Rattle.state.specs.State.{tally_of}
+use Rattle.state.specs.State.{Reduced, tally_of}
 use Rattle.typing.specs.Here.{Here, later, depth_at, store_at, res_at, Keeps, After}
+use Rattle.std.specs.Prelude.{Err, Ok}
+use Rattle.rows.specs.Refusals.{number_of}
 
 -- a value with the meter after it, or the refusal's number
 pub data Outcome (A : Type 0) : Type 0 where
@@ -19,8 +19,8 @@ pub data Outcome (A : Type 0) : Type 0 where
   refused : ℕ → Outcome A
 
 abbrev pub outcome_of : Reduced → Outcome rules.Ptr
-outcome_of (To p m) = gave (ptr_of p) m
-outcome_of (Refused k) = refused k
+outcome_of (Ok (p, m)) = gave (ptr_of p) m
+outcome_of (Err k) = refused (number_of k)
 
 -- what follows an outcome, when the words are cs and sc
 abbrev pub then_on : {A : Type 0} → ℕ → Here → (cs sc : List ℕ) → (Store → A → Ask) → Outcome A → Res

@@ -17,8 +17,7 @@ use Rattle.inferring.specs.Eval.{run, type_at}
 use Rattle.rows.specs.Words.{store_of}
 use Rattle.state.specs.declared.Given.{Given}
 use Rattle.state.specs.declared.Meter.{Meter}
-use Rattle.state.specs.declared.Reduced.{Reduced}
-use Rattle.state.specs.State.{tally_of}
+use Rattle.state.specs.State.{Reduced, tally_of}
 use Rattle.typing.specs.Here.{Here, here, later, depth_at, env_at, tally_at, limits_at, Ready, Keeps}
 use Rattle.typing.specs.Gives.{Outcome, gave, refused, outcome_of, Value, Gives, InAt}
 

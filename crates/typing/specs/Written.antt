@@ -6,19 +6,18 @@ use Rattle.substitution.specs.Stores.{FieldsOk}
 use Rattle.substitution.specs.Passing.{Worded}
 use Rattle.course.specs.Charged as course
 use Rattle.safety.specs.Sane.{decl_count}
-use Rattle.rows.specs.declared.Out.{Out}
-use Rattle.rows.specs.declared.Out.TheVariants as out
+use Rattle.rows.specs.Refusals.{Out}
 use Rattle.rows.specs.declared.Shape.{Shape}
 use Rattle.rows.specs.Words.{row_of}
 use Rattle.rows.specs.Writes.{Wrote, Due}
 use Rattle.state.specs.declared.Meter.{Meter}
-use Rattle.state.specs.declared.Reduced.{Reduced}
-use Rattle.state.specs.declared.Reduced.TheVariants.{To, Refused}
+use Rattle.state.specs.State.{Reduced}
 use Rattle.typing.specs.Here.{Here, depth_at, env_at, store_at}
+use Rattle.std.specs.Prelude.{Err, Ok}
 
 abbrev pub reduced_by : ℕ → Out → Reduced
-reduced_by steps (out.Done p mark) = To p (record { mark = mark; steps = steps })
-reduced_by steps (out.Refused k) = Refused k
+reduced_by steps (Ok (p, mark)) = Ok (p, record { mark = mark; steps = steps })
+reduced_by steps (Err k) = Err k
 
 pub record Written (l sc : List ℕ) (m : Meter) (r : Reduced) (sc' : List ℕ) (due : course.Out) : Type 0 where
   pub answer : Out

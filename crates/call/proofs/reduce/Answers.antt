@@ -8,10 +8,11 @@ pub whnf-requires : goal.whnf-requires
 whnf-requires c = may_reduce c.requires c.given-g.ensures
 
 pub overflow_sub-result : goal.overflow_sub-result
-overflow_sub-result c = omega (arith, mark_moves c.requires c.given-g.ensures c.whnf.ensures c.in-To.is)
+overflow_sub-result c = omega (arith, mark_moves c.requires c.given-g.ensures c.whnf.ensures c.in-Ok.is)
 
-pub returns-in-To : goal.returns-in-To
-returns-in-To c = to_term c.requires c.given-g.ensures c.whnf.ensures c.in-To.is
+pub returns-in-Ok : goal.returns-in-Ok
+returns-in-Ok c = to_term c.requires c.given-g.ensures c.whnf.ensures c.in-Ok.is
 
-pub returns-in-Refused : goal.returns-in-Refused
-returns-in-Refused c = to_refusal c.requires c.given-g.ensures c.whnf.ensures c.in-Refused.is c.zero_from.ensures
+pub returns-in-Err : goal.returns-in-Err
+returns-in-Err c =
+    rw c.at.ensures (to_refusal c.requires c.given-g.ensures c.whnf.ensures c.in-Err.is c.zero_from.ensures)

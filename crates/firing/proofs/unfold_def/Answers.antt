@@ -4,14 +4,14 @@ use borrow.Author.Rules.{rules}
 use Rattle.firing.proofs.Unfolding.{none_unfolds, it_unfolds, no_value, other_levels, the_value}
 use Rattle.firing.proofs.unfold_def.Goals as goal
 
-pub returns-then-d-eq0 : goal.returns-then-d-eq0
-returns-then-d-eq0 c = none_unfolds _ _ _ c.requires.headed.used.held.room (no_value c.args.d c.args.levels c.if-d-eq0.true)
+pub returns-in_default : goal.returns-in_default
+returns-in_default c = none_unfolds _ _ _ c.requires.headed.used.held.room (no_value c.args.d c.args.levels c.in_default.is)
 
 pub returns-then-d-levels : goal.returns-then-d-levels
-returns-then-d-levels c = none_unfolds _ _ _ c.requires.headed.used.held.room (other_levels c.args.d c.args.levels c.if-d-eq0.false c.if-d-levels.true)
+returns-then-d-levels c = none_unfolds _ _ _ c.requires.headed.used.held.room (other_levels c.args.d c.args.levels c.if-d-levels.true)
 
 pub give-requires : goal.give-requires
-give-requires c = record { headed = c.requires.headed; row_bound = (c.requires.row_bound c.if-d-eq0.false, search rules) }
+give-requires c = record { headed = c.requires.headed; row_bound = (rw c.in-Some.is at c.requires.row_bound, search rules) }
 
 pub returns : goal.returns
-returns c = it_unfolds _ _ _ _ (the_value c.args.d c.args.levels c.if-d-eq0.false c.if-d-levels.false) c.give.ensures
+returns c = it_unfolds _ _ _ _ (the_value c.args.d c.args.levels c.in-Some.is c.if-d-levels.false) c.give.ensures

@@ -9,4 +9,4 @@ pub returns-then-depth-eq0 : goal.returns-then-depth-eq0
 returns-then-depth-eq0 c = no_context _ _ _ c.if-depth-eq0.true
 
 pub returns : goal.returns
-returns c = in_record _ _ _ c.if-depth-eq0.false _ (c.words_at-w.ensures.words ∙ ap (part 5 _) c.record_of.ensures)
+returns c = in_record _ _ _ c.if-depth-eq0.false _ (c.record_at-w.ensures ∙ ap (part 5 _) c.record_of.ensures)

@@ -4,11 +4,8 @@ use borrow.Author.Rules.{rules}
 use mathlib.Core.Path.{◌≡◌}
 use Rattle.rules.specs.Rows.{cell_at}
 use Rattle.rows.specs.Words.{ptr_of, whole}
-use Rattle.rows.proofs.Lookup.{nine_read, bound_read, closed_up, open_up}
+use Rattle.rows.proofs.Lookup.{bound_read, closed_up, open_up}
 use Rattle.rows.proofs.shift_up.Goals as goal
-
-pub bound_of-b-requires : goal.bound_of-b-requires
-bound_of-b-requires c = nine_read _ _ _ (search rules) _ c.row_at.ensures
 
 pub returns-then-b-eq0 : goal.returns-then-b-eq0
 returns-then-b-eq0 c =

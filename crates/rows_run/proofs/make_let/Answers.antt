@@ -3,5 +3,5 @@ use Rattle.std.proofs.Common.{arith}
 use Rattle.rows.proofs.DueRows.{let_due}
 use Rattle.rows_run.proofs.make_let.Goals as goal
 
-pub make-out-requires-clause-due : goal.make-out-requires-clause-due
-make-out-requires-clause-due g c = let_due _ _ _ _ (omega arith) (omega arith) (omega arith)
+pub write_made-requires-clause-due : goal.write_made-requires-clause-due
+write_made-requires-clause-due g c = rw c.from-code.ensures (let_due _ _ _ _ (omega arith) (omega arith) (omega arith))

@@ -1,6 +1,5 @@
 -- `spine::child` meets its contract: the pair is read where the row stands, and takes the pointer's shift on.
 -- Assumes nothing.
-use borrow.Author.Rules.{rules}
 use native.Mathlib.Omega.{arith}
 use mathlib.Core.Path.{◌≡◌, ap, ◌∙◌}
 use mathlib.Core.List.{List}
@@ -8,11 +7,10 @@ use Prim.Native.Nat.{ℕ}
 use Rattle.rules.specs.Rows.{up}
 use Rattle.rows.specs.declared.Ptr.{Ptr}
 use Rattle.rows.specs.Words.{ptr_of, pair_at, words_at, whole}
-use Rattle.rows.proofs.Lookup.{nine_read}
 use Rattle.spine.proofs.child.Goals as goal
 
 pub pair_of-p-requires : goal.pair_of-p-requires
-pair_of-p-requires c = record { row_len = nine_read _ _ _ (search rules) _ c.row_at.ensures; j_bound = search rules }
+pair_of-p-requires c = c.requires.j_bound
 
 pub shift_up-requires : goal.shift_up-requires
 shift_up-requires c =

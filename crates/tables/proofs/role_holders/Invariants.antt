@@ -3,6 +3,3 @@ use Rattle.tables.proofs.role_holders.Given as goal
 
 abbrev pub invariant-loop-d : goal.invariant-loop-d
 invariant-loop-d l = HoldersFrom l.decls l.d l.of
-
-abbrev pub decreases-loop-d : goal.decreases-loop-d
-decreases-loop-d l = l.d

@@ -1,20 +1,21 @@
--- `tables::rule_for` meets its contract. The loop's invariant: the search over all rules is the search over those that are left.
--- The measure is how many are left. Assumes nothing.
-use borrow.Author.Rules.{rules}
-use native.Mathlib.Nat.{add-zero, sub-zero}
-use native.Mathlib.Omega.{arith}
-use mathlib.Core.Path.{sym, ap₂, ◌∙◌}
-use Rattle.tables.proofs.Reading.{RuleFrom, rule_here, rule_later, no_rule}
+-- `tables::rule_for` meets its contract: what `find` takes of the rules that are read is what the rules' own search finds.
+-- Assumes nothing.
+use Rattle.std.proofs.Common.{rules, tests, refl, sym, ap, ◌∙◌, arith, ◌+◌}
+use Rattle.std.proofs.lemmas.Iterator.{YieldsList-from_range, YieldsList-from_map}
+use Rattle.std.proofs.lemmas.Iterator.Consumers.{YieldsList-at}
+use Rattle.std.proofs.lemmas.Iterator.Search.{find_from_yields_List}
+use Rattle.rules.specs.Accepted.{part}
+use Rattle.tables.specs.Read.{rule_read, found_rule}
+use Rattle.tables.proofs.Reading.{is_for, option_same, rules_found}
 use Rattle.tables.proofs.rule_for.Goals as goal
 
-pub loop-i-init : goal.loop-i-init
-loop-i-init c = (search rules, ap₂ (RuleFrom _ _) (add-zero _) (sub-zero _))
-
-pub returns-then-r-constructor : goal.returns-then-r-constructor
-returns-then-r-constructor c = rule_here _ _ _ _ _ c.loop-i-test.true _ c.rule_at-r.ensures c.if-r-constructor.true ∙ c.loop-i.invariant.1
-
-pub loop-i-preserved : goal.loop-i-preserved
-loop-i-preserved c = (search rules, sym (rule_later _ _ _ _ _ c.loop-i-test.true _ c.rule_at-r.ensures c.if-r-constructor.false) ∙ c.loop-i.invariant.1)
-
 pub returns : goal.returns
-returns c = no_rule _ _ _ _ (omega arith) ∙ c.loop-i.invariant.1
+returns c =
+    let rs = c.args.rules.now in
+    let con = c.args.constructor in
+    let numbers = YieldsList-from_range c.args.first (c.args.first + c.args.count) c.args.count refl (omega arith) in
+    let first_of = find_from_yields_List (is_for rs con) _ _ c.find.result c.find.ensures.ran
+    (YieldsList-from_map _ (λ i. rule_read (part 4 rs i)) (YieldsList-at c.map.ensures.source numbers) c.map.ensures.closure
+    (λ x r q k. search rules))
+    (λ x b q k. search (rules, tests)) in
+    ap found_rule (sym (option_same c.find.result) ∙ first_of) ∙ rules_found rs con c.args.first c.args.count

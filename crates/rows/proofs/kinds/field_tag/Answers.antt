@@ -1,38 +1,48 @@
--- `rows::kinds::field_tag` meets its contract: one test over the whole table says that each entry is the mark that the rules' table has
--- at its kind and field.
+-- `rows::kinds::field_tag` meets its contract: kind by kind, field by field, the code's mark is the one that the rules' table has.
 -- Assumes nothing.
-use borrow.Author.Rules.{rules}
-use native.Mathlib.Omega.{arith}
-use mathlib.Core.Path.{◌≡◌, ap, ap₂, ◌∙◌}
-use mathlib.Core.Bool.{Bool}
+use Rattle.std.proofs.Common.{slice_index_or}
+use mathlib.Core.Path.{◌≡◌, refl}
 use mathlib.Core.List.{List, [], ◌∷◌}
-use Prim.Native.Nat.{ℕ, ◌+◌, ◌*◌, ◌/◌, ◌%◌, ◌<◌}
-use lib.Dec.{eqb, eqb→eq}
-use lib.ListN.{get_or}
+use Prim.Native.Nat.{ℕ, ◌≤◌, ◌<◌}
 use Rattle.rules.specs.Kinds.{table}
+use Rattle.rows.specs.declared.kinds.Tag.{Tag}
+use Rattle.rows.specs.declared.kinds.Tag.TheVariants.{Plain, Term, Body}
 use Rattle.rows.specs.Words.{tags_at, tag_at}
-use Rattle.rows.specs.Checks.{tag_code}
-use Rattle.rows.proofs.Table.{at}
+use Rattle.rows.specs.Kinds.{tag_of}
+use Rattle.rows.proofs.NineKinds.{each_kind, each_field}
 use Rattle.rows.proofs.kinds.field_tag.Goals as goal
 
-marks : List ℕ
-marks = 0 ∷ 0 ∷ 0 ∷ 0 ∷ 0 ∷ 0 ∷ 0 ∷ 0 ∷ 0 ∷ 1 ∷ 1 ∷ 0 ∷ 1 ∷ 2 ∷ 0 ∷ 1 ∷ 2 ∷ 0 ∷ 1 ∷ 1 ∷ 2 ∷ 1 ∷ 0 ∷ 0 ∷ 0 ∷ 0 ∷ 0 ∷ []
+marks : List (List Tag)
+marks =
+    (Plain ∷ Plain ∷ Plain ∷ [])
+    ∷ (Plain ∷ Plain ∷ Plain ∷ [])
+    ∷ (Plain ∷ Plain ∷ Plain ∷ [])
+    ∷ (Term ∷ Term ∷ Plain ∷ [])
+    ∷ (Term ∷ Body ∷ Plain ∷ [])
+    ∷ (Term ∷ Body ∷ Plain ∷ [])
+    ∷ (Term ∷ Term ∷ Body ∷ [])
+    ∷ (Term ∷ Plain ∷ Plain ∷ [])
+    ∷ (Plain ∷ Plain ∷ Plain ∷ [])
+    ∷ []
 
--- an entry's place is three times its kind, plus its field
-right : ℕ → ℕ → Bool
-unfolding tags_at
-right i x = eqb x (tag_code (tag_at (i / 3) (i % 3)))
+abbrev Right : Tag → List Tag → ℕ → ℕ → Type 0
+Right x ys k j = tag_of (slice_index_or (slice_index_or marks k ys) j x) ≡ tag_at k j
 
-entry : (i : ℕ) → i < 27 → get_or marks i 0 ≡ tag_code (tag_at (i / 3) (i % 3))
-unfolding marks right tags_at table
-entry i h = eqb→eq (get_or marks i 0) (tag_code (tag_at (i / 3) (i % 3))) (at right marks tt i h)
-
-mark_at : (k j : ℕ) → 3 * k + j < 27 → j < 3 → get_or marks (3 * k + j) 0 ≡ tag_code (tag_at k j)
-mark_at k j h small =
-    let kind : (3 * k + j) / 3 ≡ k = omega arith in
-    let field : (3 * k + j) % 3 ≡ j = omega arith in
-    entry (3 * k + j) h ∙ ap tag_code (ap₂ tag_at kind field)
+mark_at : (x : Tag) (ys : List Tag) (k j : ℕ) → k ≤ 8 → j < 3 → Right x ys k j
+unfolding marks tags_at table
+mark_at x ys k j h small =
+    each_kind (λ (i : ℕ). Right x ys i j)
+    (each_field (Right x ys 0) refl refl refl j small)
+    (each_field (Right x ys 1) refl refl refl j small)
+    (each_field (Right x ys 2) refl refl refl j small)
+    (each_field (Right x ys 3) refl refl refl j small)
+    (each_field (Right x ys 4) refl refl refl j small)
+    (each_field (Right x ys 5) refl refl refl j small)
+    (each_field (Right x ys 6) refl refl refl j small)
+    (each_field (Right x ys 7) refl refl refl j small)
+    (each_field (Right x ys 8) refl refl refl j small)
+    k h
 
 pub returns : goal.returns
 unfolding marks
-returns c = mark_at c.args.kind c.args.j (search rules) (search rules)
+returns c = mark_at _ _ c.args.kind c.args.j c.requires.0 c.requires.1

@@ -1,23 +1,33 @@
 -- `rows::row_check::in_range` meets its contract: each kind with plain words has its range, and the others have any words.
 -- Assumes nothing.
 use borrow.Author.Rules.{rules}
+use mathlib.Core.Path.{sym}
+use Rattle.rows.specs.declared.kinds.Kind.TheVariants.{Variable, Sort, Constant, Projection}
+use Rattle.rows.proofs.Codes.{not_code}
 use Rattle.rows.proofs.RowRules.{var_range, sort_range, const_range, const_unknown, proj_range, other_range}
 use Rattle.rows.proofs.row_check.in_range.Goals as goal
 
-pub returns-then-kind-eq0 : goal.returns-then-kind-eq0
-returns-then-kind-eq0 c = var_range _ _ _ _ _ c.if-kind-eq0.true
+pub returns-in-Variable : goal.returns-in-Variable
+returns-in-Variable c = var_range _ _ _ _ _ (sym c.in-Variable.ensures)
 
-pub returns-then-kind-eq1 : goal.returns-then-kind-eq1
-returns-then-kind-eq1 c = sort_range _ _ _ _ _ c.if-kind-eq1.true
+pub returns-in-Sort : goal.returns-in-Sort
+returns-in-Sort c = sort_range _ _ _ _ _ (sym c.in-Sort.ensures)
 
-pub returns-then-a-declarations : goal.returns-then-a-declarations
-returns-then-a-declarations c = const_range _ _ _ _ _ c.if-kind-eq2.true c.if-a-declarations.true
+pub returns-then-w-declarations : goal.returns-then-w-declarations
+returns-then-w-declarations c = const_range _ _ _ _ _ (sym c.in-Constant.ensures) c.if-w-declarations.true
 
-pub returns-then-kind-eq2 : goal.returns-then-kind-eq2
-returns-then-kind-eq2 c = const_unknown _ _ _ _ _ c.if-kind-eq2.true c.if-a-declarations.false
+pub returns-else-w-declarations : goal.returns-else-w-declarations
+returns-else-w-declarations c = const_unknown _ _ _ _ _ (sym c.in-Constant.ensures) c.if-w-declarations.false
 
-pub returns-then-kind-eq7 : goal.returns-then-kind-eq7
-returns-then-kind-eq7 c = proj_range _ _ _ _ _ c.if-kind-eq7.true
+pub returns-in-Projection : goal.returns-in-Projection
+returns-in-Projection c = proj_range _ _ _ _ _ (sym c.in-Projection.ensures)
 
-pub returns : goal.returns
-returns c = other_range _ _ _ _ _ (search rules) (search rules) (search rules) c.if-kind-eq0.false c.if-kind-eq1.false c.if-kind-eq2.false c.if-kind-eq7.false
+pub returns-in_default : goal.returns-in_default
+returns-in_default c =
+    let code = c.known.ensures in
+    let other = c.in_default in
+    other_range _ _ _ _ _ (search rules) (search rules) c.requires
+    (not_code Variable other.not-Variable code)
+    (not_code Sort other.not-Sort code)
+    (not_code Constant other.not-Constant code)
+    (not_code Projection other.not-Projection code)

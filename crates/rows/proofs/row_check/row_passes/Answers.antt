@@ -7,12 +7,9 @@ use borrow.Author.Tests.{not-true, not-false}
 use mathlib.Core.Path.{◌≡◌}
 use Rattle.rows.specs.Words.{shape_at, words_at}
 use Rattle.rows.specs.Checks.{Formed}
-use Rattle.rows.proofs.Lookup.{nine_read, shape_read}
+use Rattle.rows.proofs.Lookup.{shape_read}
 use Rattle.rows.proofs.RightRow.{right_children, not_formed, not_fields, last_sized}
 use Rattle.rows.proofs.row_check.row_passes.Goals as goal
-
-pub shape_of-w-requires : goal.shape_of-w-requires
-shape_of-w-requires c = nine_read _ _ _ (search rules) _ c.row_at.ensures
 
 pub returns-then-not-formed : goal.returns-then-not-formed
 returns-then-not-formed c =

@@ -4,8 +4,8 @@ use borrow.Author.Rules.{rules}
 use Rattle.rows.proofs.Writing.{due_children, pushed_wrote}
 use Rattle.rows.proofs.writer.make.Goals as goal
 
-pub sizes_of-size-requires : goal.sizes_of-size-requires
-sizes_of-size-requires c = due_children _ _ _ _ _ c.requires.held c.requires.due
+pub sizes_of-requires : goal.sizes_of-requires
+sizes_of-requires c = due_children _ _ _ _ _ c.requires.held c.requires.due
 
 pub returns : goal.returns
-returns c = pushed_wrote _ _ _ _ _ c.requires.held c.requires.due _ c.sizes_of-size.ensures (search rules) c.push.ensures
+returns c = pushed_wrote _ _ _ _ _ c.requires.held c.requires.due _ c.sizes_of.ensures (search rules) c.push.ensures

@@ -2,10 +2,9 @@
 -- Assumes nothing.
 use borrow.Author.Rules.{rules}
 use native.Mathlib.Omega.{arith}
-use mathlib.Core.Path.{refl}
+use mathlib.Core.Path.{refl, ◌∙◌}
 use Prim.Native.Nat.{◌*◌}
 use borrow.Author.Tests.{not-true}
-use Rattle.rows.specs.Words.{words_of}
 use Rattle.rows.specs.Checks.{Within}
 use Rattle.rows.specs.Writes.{too_large, none_free, at_mark}
 use Rattle.rows.proofs.Writing.{pasted}
@@ -32,6 +31,4 @@ overflow_cast-size-2 c =
 pub returns : goal.returns
 returns c =
     let small : Within c.args.size = search (rules, c.within-small.ensures.yes) in
-    let args = c.args in
-    let words = words_of args.w args.size.bound args.size.height in
-    at_mark small c.if-scratch-end.false refl (pasted args.scratch.now words _ (9 * args.mark) (search rules) c.fill.ensures)
+    at_mark small c.if-scratch-end.false refl (pasted _ _ _ (9 * c.args.mark) (c.copy_from_slice.ensures.after ∙ c.nine_words.ensures))
