@@ -31,6 +31,7 @@ impl From<u64> for Number {
 
     fn from(v: u64) -> Number {
         Number {
+            // `as` narrows a remainder and a quotient that fit
             low: (v % BASE) as u32,
             high: (v / BASE) as u32,
         }

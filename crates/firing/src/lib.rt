@@ -1,5 +1,5 @@
 // Firings that ask for no side reduction: a pointer that stands already, with the remaining arguments applied to it; a value replaced into a body.
-// 4 comes first, then each row in turn.
+// 4 comes first, then each row in turn. The state goes by value, the term with its count beside it: see crates state and spine.
 #![tactic(auto)]
 
 ghost use Rattle.std.specs.Prelude.{◌≡◌, ◌+◌, ◌/◌, ◌<◌, ◌≤◌, ◌∷◌, length, drop, IfSome};

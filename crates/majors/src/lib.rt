@@ -1,4 +1,5 @@
 // A reduced major: as a number, as a constructor; what arithmetic gives, written; the rule of a recursor that fires.
+// The state goes by value, the term with its count beside it: see crates state and spine.
 #![tactic(auto)]
 
 ghost use Rattle.std.specs.Prelude.{◌≡◌, ◌+◌, ◌/◌, ◌<◌, length};

@@ -18,7 +18,7 @@ pub struct Pi {
     pub body: Ptr,
 }
 
-// A declaration's type.
+// A declaration's type. Where a record lies in what is lent is a clause: the list and the number come from two places.
 pub fn type_at(decls: &[u32], d: u32) -> Ptr
     requires { 16 * d + 16 ≤ length decls.now }
     ensures { result ≡ type_read (part 16 decls.now d) }

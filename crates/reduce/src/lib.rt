@@ -1,6 +1,6 @@
 // Head reduction: the cycle. `whnf` loops over firings; `at_head` finds the head and tries the rules in the document's order; each
 // rule's side reductions go through `side`, the one place where the remaining nesting falls. Document 01: a side answer is taken apart by
-// `let .. else`, and the else hands the refusal up.
+// `let .. else`, and the else hands the refusal up. The state goes by value, the term with its count beside it: see crates state and spine.
 #![tactic(auto)]
 
 ghost use Rattle.std.specs.Prelude.{◌≡◌, suc, ◌/◌, ◌<◌, length};
@@ -138,7 +138,8 @@ fn reduce_quot(
 }
 
 // A recursor whose count of levels is right: the major as a constructor, and the rule for it. The position is a sum in 64 bits, since
-// each count is any u32; `as` widens it, and the sum stands in the proofs as it stands here, without a law of `from` for each term.
+// each count is any u32; `as` widens it: tried with `u64::from`, the proofs did not close, since they read the sum as it stands.
+// Where `as` narrows, the count of arguments shows that it fits.
 #[cycle(whnf)]
 fn reduce_rec(
     lent: Lent<'_>,

@@ -35,7 +35,8 @@ pub fn record_at<const N: usize>(words: &[u32], at: usize) -> &[u32; N]
     words[at..at + N].try_into().unwrap()
 }
 
-// The nine words of row n, where it stands. Document 01: row lookup takes both lent slices, so they go down as two parameters.
+// The nine words of row n, where it stands. Document 01: row lookup takes both lent slices, so they go down as two parameters,
+// and what is said of both (`Stands`, `Held`, ..) are clauses. `as usize`: no `From` leads from u32 to usize.
 pub fn row_at<'a>(library: &'a [u32], scratch: &'a [u32], n: u32) -> &'a [u32; 9]
     requires { Stands library.now scratch.now n }
     ensures { result.now ≡ words_at library.now scratch.now n }
@@ -48,6 +49,7 @@ pub fn row_at<'a>(library: &'a [u32], scratch: &'a [u32], n: u32) -> &'a [u32; 9
     }
 }
 
+// As a word: any nine words have one.
 pub fn kind_of(row: &[u32; 9]) -> u32
     ensures { result ≡ get_or row.now 0 0 }
 {
@@ -88,8 +90,8 @@ pub fn shape_of(row: &[u32; 9]) -> Shape
     }
 }
 
-// 0 for a closed row, else row bound plus shift: 64 bits, since a shift that no check has seen is any u32. `as` widens, so that each
-// contract above reads the sum, without a law of `from` for each term.
+// 0 for a closed row, else row bound plus shift: 64 bits, since a shift that no check has seen is any u32. `as` widens:
+// tried with `u64::from`, the proofs did not close, since the contracts above read the sum as it stands.
 pub fn ptr_bound<'a>(library: &'a [u32], scratch: &'a [u32], p: Ptr) -> u64
     requires { Stands library.now scratch.now p.row }
     ensures { result ≡ bound (whole library.now scratch.now) (ptr_of p) }

@@ -46,7 +46,7 @@ fn in_range(w: Shape, declarations: u32) -> bool
     }
 }
 
-// A child's row is lower, and a closed child's shift is 0.
+// A child's row is lower, and a closed child's shift is 0. One test returns before the next; tried as a chain, the proof did not close.
 fn child_ok<'a>(library: &'a [u32], scratch: &'a [u32], n: u32, p: Ptr) -> bool
     requires { Stands library.now scratch.now n }
     ensures { Says (ChildOk (whole library.now scratch.now) n (ptr_of p)) result }
@@ -61,7 +61,7 @@ fn child_ok<'a>(library: &'a [u32], scratch: &'a [u32], n: u32, p: Ptr) -> bool
     true
 }
 
-// Plain words are no child.
+// Plain words are no child. The kind is the word that the shape has, as `field_tag` asks for it.
 fn field_ok<'a>(library: &'a [u32], scratch: &'a [u32], n: u32, kind: u32, j: u32, p: Ptr) -> bool
     requires kind_bound { (kind ≤ 8) × (j < 3) }
     requires stands { Stands library.now scratch.now n }
@@ -73,8 +73,8 @@ fn field_ok<'a>(library: &'a [u32], scratch: &'a [u32], n: u32, kind: u32, j: u3
     }
 }
 
-// Plain words in range, and each field as the table marks it. Here and below one test returns before the next: in a chain of three the proof
-// would have to take the joined tests apart again.
+// Plain words in range, and each field as the table marks it. Here and below one test returns before the next; tried as a chain, the proof
+// did not close: it would have to take the joined tests apart again.
 fn fields_ok<'a>(
     library: &'a [u32],
     scratch: &'a [u32],

@@ -43,6 +43,7 @@ fn push(scratch: &mut [u32], nlib: u32, mark: u32, w: Shape, size: Sizes) -> Out
     if scratch.len() < end {
         return Err(Refusal::NoFreeRow);
     }
+    // `as` narrows: both are within their maxima
     scratch[at..end].copy_from_slice(&nine_words(w, size.bound as u32, size.height as u32));
     let written = Ptr {
         row: nlib + mark,

@@ -41,7 +41,7 @@ fn write_pointer(rt: &impl Print, p: Ptr) -> io::Result<()> {
     print!(rt; " {} {}", p.row, p.shift)
 }
 
-// The words from a place on, and the line's end.
+// The words from a place on, and the line's end. The spine's program has the like: a crate for the lines would be no plainer.
 fn write_words(rt: &impl Print, words: &[u32], from: usize) -> io::Result<()> {
     for word in words.iter().skip(from) {
         print!(rt; " {word}")?;
@@ -65,7 +65,7 @@ fn write_out(rt: &impl Print, answer: Out, scratch: &[u32]) -> io::Result<()> {
     write_words(rt, scratch, 36)
 }
 
-// Past the end there is nothing to set. The tables' program has this too.
+// Past the end there is nothing to set. The tables' program has this too: a crate for the four lines would be no plainer.
 fn set(words: &mut [u32], at: usize, value: u32) {
     if at < words.len() {
         words[at] = value;
@@ -90,7 +90,7 @@ fn check_scratch(rt: &impl Print, at: usize, value: u32) -> io::Result<()> {
     write_checked(rt, checked)
 }
 
-// A row with children, which stand below the mark.
+// A row with children, which stand below the mark. The mark's clause, here and below, is a constant of the table.
 fn write_made(rt: &impl Print, mark: u32, w: Shape) -> io::Result<()>
     requires mark_bound { mark ≤ 6 }
     requires due { Due (6 + mark) w }

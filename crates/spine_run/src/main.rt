@@ -54,6 +54,7 @@ fn write_pointer(rt: &impl Print, p: Ptr) -> io::Result<()> {
     print!(rt; " {} {}", p.row, p.shift)
 }
 
+// The rows' program has the like.
 fn write_words(rt: &impl Print, words: &[u32], from: usize) -> io::Result<()> {
     for word in words.iter().skip(from) {
         print!(rt; " {word}")?;

@@ -1,11 +1,13 @@
--- The roles of the lower declarations, remembered in a table of sixteen: true at a role that is held.
+-- The roles of the lower declarations, remembered in a table of sixteen words: 0 at a role that is free.
 -- Assumes nothing.
 use Prim.Native.Nat.{ℕ, ◌+◌, ◌*◌, ◌≤◌, ◌<◌}
 use native.Mathlib.Decide.{ℕ_discrete}
 use native.Mathlib.Omega.{arith}
-use mathlib.Core.Path.{◌≡◌, refl, sym, ap, subst, ◌∙◌}
-use mathlib.Core.Bool.{Bool, true, false, not}
+use mathlib.Core.Path.{◌≡◌, sym, ap, subst, ◌∙◌}
+use mathlib.Core.Bool.{Bool}
 use mathlib.Core.List.{List}
+use borrow.Author.Tests.{eq-eqb, ne_eqb}
+use lib.Dec.{eqb}
 use lib.ListN.{length, get_or, set, length-set}
 use lib.Seq.{get_or-set_same, get_or-set_other}
 use Rattle.rows.specs.Checks.{Says}
@@ -17,12 +19,12 @@ pub record Free (ds : List ℕ) (k j : ℕ) : Type 0 where
   pub none : (i : ℕ) → i < j → get_or ds (16 * i + 7) 0 ≡ k → ⊥
 
 module _ (ds : List ℕ) where
-  pub record Seen (seen : List Bool) (j : ℕ) : Type 0 where
+  pub record Seen (seen : List ℕ) (j : ℕ) : Type 0 where
     pub many : length seen ≡ 16
-    pub each : (k : ℕ) → k < 16 → Says (Free ds k j) (not (get_or seen k false))
+    pub each : (k : ℕ) → k < 16 → Says (Free ds k j) (eqb (get_or seen k 0) 0)
 
   -- what is asked of the table is what is asked of the lower declarations
-  module _ (seen : List Bool) (j role : ℕ) (know : Seen seen j) where
+  module _ (seen : List ℕ) (j role : ℕ) (know : Seen seen j) where
     to_right : RoleFree seen role → RoleRight ds j role
     to_right r = record { code = r.code; first = λ i h q. on i h q (ℕ_discrete role 0) }
       where
@@ -30,16 +32,16 @@ module _ (ds : List ℕ) where
         on i h q (yes e) = e
         on i h q (no ne) =
             let code = r.code in
-            absurd (((know.each role (omega arith)).yes (ap not (r.free ne))).none i h q)
+            absurd (((know.each role (omega arith)).yes (eq-eqb _ _ (r.free ne))).none i h q)
 
     from_right : RoleRight ds j role → RoleFree seen role
-    from_right r = record { code = r.code; free = λ ne. on ne (get_or seen role false) refl }
+    from_right r = record { code = r.code; free = λ ne. on ne (ℕ_discrete (get_or seen role 0) 0) }
       where
-        on : (role ≡ 0 → ⊥) → (b : Bool) → get_or seen role false ≡ b → b ≡ false
-        on ne false e = refl
-        on ne true e =
+        on : (role ≡ 0 → ⊥) → Dec (get_or seen role 0 ≡ 0) → get_or seen role 0 ≡ 0
+        on ne (yes e) = e
+        on ne (no n) =
             let code = r.code in
-            absurd ((know.each role (omega arith)).no (ap not e) (record { none = λ i h q. ne (r.first i h q) }))
+            absurd ((know.each role (omega arith)).no (ne_eqb _ _ n) (record { none = λ i h q. ne (r.first i h q) }))
 
     pub role_says : {b : Bool} → Says (RoleFree seen role) b → Says (RoleRight ds j role) b
     role_says = says_same to_right from_right
@@ -56,13 +58,13 @@ module _ (ds : List ℕ) where
           on i h q (yes e) = ne (here ∙ ap (λ (n : ℕ). get_or ds (16 * n + 7) 0) (sym e) ∙ q)
           on i h q (no n) = f.none i (omega arith) q
 
-      each_more : (k : ℕ) → k < 16 → Dec (role ≡ k) → Says (Free ds k (j + 1)) (not (get_or (set seen role true) k false))
+      each_more : (k : ℕ) → k < 16 → Dec (role ≡ k) → Says (Free ds k (j + 1)) (eqb (get_or (set seen role 1) k 0) 0)
       each_more k h (yes e) =
-          subst (λ (n : ℕ). Says (Free ds n (j + 1)) (not (get_or (set seen role true) n false))) e
-          (subst (λ (b : Bool). Says (Free ds role (j + 1)) (not b)) (sym (get_or-set_same seen role true false (omega (arith, know.many)))) (says_no taken))
+          subst (λ (n : ℕ). Says (Free ds n (j + 1)) (eqb (get_or (set seen role 1) n 0) 0)) e
+          (subst (λ (n : ℕ). Says (Free ds role (j + 1)) (eqb n 0)) (sym (get_or-set_same seen role 1 0 (omega (arith, know.many)))) (says_no taken))
       each_more k h (no ne) =
-          subst (λ (b : Bool). Says (Free ds k (j + 1)) (not b)) (sym (get_or-set_other seen role k true false (λ e. ne (sym e))))
+          subst (λ (n : ℕ). Says (Free ds k (j + 1)) (eqb n 0)) (sym (get_or-set_other seen role k 1 0 (λ e. ne (sym e))))
           (says_same (still_free k ne) (λ f. record { none = λ i l q. f.none i (omega arith) q }) (know.each k h))
 
-      pub seen_more : Seen (set seen role true) (j + 1)
-      seen_more = record { many = length-set seen role true ∙ know.many; each = λ k h. each_more k h (ℕ_discrete role k) }
+      pub seen_more : Seen (set seen role 1) (j + 1)
+      seen_more = record { many = length-set seen role 1 ∙ know.many; each = λ k h. each_more k h (ℕ_discrete role k) }

@@ -1,6 +1,6 @@
 -- What acceptance tests, clause by clause, on the words where they stand; ClauseLaws shows that together they are the rules' own.
 -- Assumes nothing: these are definitions.
-use Rattle.std.specs.Prelude.{ℕ, ◌+◌, ◌*◌, ◌%◌, ◌≤◌, ◌<◌, ◌≡◌, Bool, false, List, length, get_or, Result, Ok, Err, ⊤}
+use Rattle.std.specs.Prelude.{ℕ, ◌+◌, ◌*◌, ◌%◌, ◌≤◌, ◌<◌, ◌≡◌, List, length, get_or, Result, Ok, Err, ⊤}
 use Rattle.rules.specs.Maxima.{most_levels, most_rules}
 use Rattle.rules.specs.Rows.{Ptr, ptr, blank, Store, cell_at, bound}
 use Rattle.rules.specs.Accepted.{part, IsConstructor}
@@ -69,10 +69,10 @@ pub record DeclKeeps (ds rs : List ℕ) (s : Store) (L j : ℕ) : Type 0 where
   pub words : DeclRight ds rs s L (part 16 ds j)
   pub role : RoleRight ds j (get_or ds (16 * j + 7) 0)
 
--- what is remembered of the lower declarations: which roles are held
-pub record RoleFree (seen : List Bool) (role : ℕ) : Type 0 where
+-- what is remembered of the lower declarations: 0 at a role that is free
+pub record RoleFree (seen : List ℕ) (role : ℕ) : Type 0 where
   pub code : role ≤ 15
-  pub free : (role ≡ 0 → ⊥) → get_or seen role false ≡ false
+  pub free : (role ≡ 0 → ⊥) → get_or seen role 0 ≡ 0
 
 -- A CONTEXT RECORD'S FIVE WORDS
 

@@ -60,7 +60,7 @@ fn check_decls<'a>(lent: Lent<'a>, scratch: &'a [u32], nlib: u32, count: u32) ->
     ensures { Upward (DeclKeeps lent.entry.declarations.now lent.entry.rules.now
         (whole lent.entry.library.now scratch.now) nlib) count result }
 {
-    let mut seen = [false; 16];
+    let mut seen = [0; 16];
     for j in 0..count {
         if !decl_ok(lent, scratch, nlib, j) {
             return Err(Refusal::Table.at(j));
@@ -71,7 +71,7 @@ fn check_decls<'a>(lent: Lent<'a>, scratch: &'a [u32], nlib: u32, count: u32) ->
             let second = j;
             return Err(Refusal::Table.at(second));
         }
-        seen[role as usize] = true;
+        seen[role as usize] = 1;
     }
     Ok(())
 }

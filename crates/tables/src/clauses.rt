@@ -129,11 +129,12 @@ pub fn decl_ok<'a>(lent: Lent<'a>, scratch: &'a [u32], nlib: u32, j: u32) -> boo
         && form_ok(lent, scratch, nlib, w)
 }
 
-// A known code, and none or one that no lower declaration has. It is read as a word, since any may stand there; 0 is no role.
-pub fn role_ok(seen: [bool; 16], role: u32) -> bool
+// A known code, and none or one that no lower declaration has. It is read as a word, since any may stand there; 0 is no role. The marks
+// are words: `RoleFree` speaks of any sixteen.
+pub fn role_ok(seen: [u32; 16], role: u32) -> bool
     ensures { Says (RoleFree seen role) result }
 {
-    role == 0 || (role <= 15 && !seen[role as usize])
+    role == 0 || (role <= 15 && seen[role as usize] == 0)
 }
 
 // Type and value of context record j are in scope at its position.

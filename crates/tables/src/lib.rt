@@ -45,7 +45,7 @@ pub struct Rule {
 // The number of the declaration that holds each role, at the role's code.
 #[derive(Clone, Copy, Debug, PartialEq, Eq)]
 pub struct Holders {
-    of: [Option<u32>; 16],
+    pub of: [Option<u32>; 16],
 }
 
 impl Holders {
@@ -119,6 +119,7 @@ pub fn role_holders(decls: &[u32]) -> Holders
     let mut of = [None; 16];
     for d in (0..decls.len() / 16).rev() {
         if let Ok(role) = Role::try_from(decls[16 * d + 7]) {
+            // `as` narrows: there are at most 4,096
             of[role.code()] = Some(d as u32);
         }
     }

@@ -267,12 +267,8 @@ fn lengths(rt: &impl Print) -> io::Result<()> {
     Ok(())
 }
 
-fn many_words() -> [u32; 1048580] {
-    [0; 1048580]
-}
-
-fn many_zeros() -> [u32; 65552] {
-    [0; 65552]
+fn zeros<const N: usize>() -> [u32; N] {
+    [0; N]
 }
 
 // Rows that are sort 0, all of them: kind 1, height 1.
@@ -284,9 +280,9 @@ fn sorts(words: &mut [u32]) {
 
 // Lists of this many words, all right, at their maxima or one record past.
 fn maxima(rt: &impl Print) -> io::Result<()> {
-    let mut words = many_words();
+    let mut words = zeros::<1048580>();
     sorts(&mut words);
-    let zeros = many_zeros();
+    let zeros = zeros::<65552>();
     for (rows, decls, rules, records, used, mark, depth) in [
         (589824, 65536, 1048576, 20480, 589824, 65536, 4096),
         (589833, 65536, 1048576, 20480, 589824, 65536, 4096),
