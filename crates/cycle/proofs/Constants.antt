@@ -47,7 +47,8 @@ module _ (e : Env) (l : List ℕ) (g : Given) (n : ℕ) (sc : List ℕ) (m : Met
   else_is = ap (step_of (limits_in g sc)) (sym (try_else (limits_in g sc) _ y z (tally_of l sc m)))
 
   -- the first fires, and is the answer
-  pub else_fires : {p : Ptr} {m₁ : Meter} {sc₁ : List ℕ} → Left l sc m (Ok (Term p m₁)) sc₁ (tried e l g n sc m y) → Left l sc m (Ok (Term p m₁)) sc₁ (tried e l g n sc m (y or_else z))
+  pub else_fires : {p : Ptr} {m₁ : Meter} {sc₁ : List ℕ} → Left l sc m (Ok (Term p m₁)) sc₁ (tried e l g n sc m y) →
+      Left l sc m (Ok (Term p m₁)) sc₁ (tried e l g n sc m (y or_else z))
   else_fires k =
       let f = step_fired (limits_in g sc) (answer_to e l g n sc m y) (sym k.says) in
       left_as (ap (step_of (limits_in g sc)) f.answer ∙ sym (ap then_z f.answer) ∙ else_is) k

@@ -15,7 +15,8 @@ ghost use Rattle.rows.specs.Words.{ptr_of, store_of, Held};
 ghost use Rattle.rows.specs.Writes.{Wrote};
 ghost use Rattle.spine.specs.Walks.{Walks};
 ghost use Rattle.state.specs.State.{tally_of, limits_in, Used, Left};
-ghost use Rattle.majors.specs.Majors.{NumberAt, MayFire, TruthHeld, OutcomeLeft, answered, truth_role, Major, major_of, Constructed, ConstantMade, succ_in, made_from, RunsApply, three_runs, MayRule, ruled_by, ruled_step};
+ghost use Rattle.majors.specs.Majors.{NumberAt, MayFire, TruthHeld, OutcomeLeft, answered, truth_role, Major, major_of, Constructed};
+ghost use Rattle.majors.specs.Majors.{ConstantMade, succ_in, made_from, RunsApply, three_runs, MayRule, ruled_by, ruled_step};
 
 use arith::{Number, Op, TooLarge, Value};
 use rows::kinds::Kind;

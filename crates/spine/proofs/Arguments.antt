@@ -88,7 +88,17 @@ module _ (l sc : List ℕ) (t : Ptr) (count : ℕ) where
       let w = c.walks in
       let q = c.counted in
       let r = spine_of (pass_formed w.pass) (scope_good w.scope) in
-      record { walks = w; scope = w.scope; the_head = head_of (store_of l sc w.mark) (ptr_of t); all = args_of (store_of l sc w.mark) (ptr_of t); behind = []; whole_spine = r; spine = r; position = omega arith; counted = q }
+      record {
+        walks = w;
+        scope = w.scope;
+        the_head = head_of (store_of l sc w.mark) (ptr_of t);
+        all = args_of (store_of l sc w.mark) (ptr_of t);
+        behind = [];
+        whole_spine = r;
+        spine = r;
+        position = omega arith;
+        counted = q;
+      }
 
   -- the same place, its position written in another way
   pub moved : (p : Ptr) (last last' : ℕ) → last ≡ last' → Arguing l sc t count p last → Arguing l sc t count p last'
