@@ -38,7 +38,7 @@ module _ (l ds rs cs sc : List ℕ) (mark : ℕ) (p : Ptr) (nesting : ℕ) (g : 
 
   module _ (a : Accepted lent (env_in lent) (store_in lent)) (h : HoldersOf ds g.holders) (rows : g.nlib ≡ length l / 9) where
     asked : Asked l ds rs cs sc g start p
-    asked = accepted_asked l ds rs cs sc mark p nesting g a h rows
+    asked = (accepted_asked l ds rs cs sc mark p nesting g a h rows).0
 
     -- the evaluator's answer, under the limits of the call
     evaluated : {r : Reduced} {sc₁ : List ℕ} → Ran l sc start r sc₁ (res_by l ds rs cs sc g start (suc nesting) (ptr_of p)) →

@@ -13,10 +13,10 @@ use Rattle.rows.specs.Words.{Held}
 use Rattle.replace.proofs.Results.{checked_sound}
 use Rattle.tables.specs.Read.{HoldersOf}
 use Rattle.tables.specs.Verdicts.{lent_of, env_in, store_in}
-use Rattle.tables.proofs.Given.{context_there, rules_there}
+use Rattle.tables.proofs.Given.{context_there, rules_there, role_given}
 use Rattle.state.specs.declared.Given.{Given}
 use Rattle.state.specs.declared.Meter.{Meter}
-use Rattle.cycle.specs.Cycle.{Tabled, Stand, Asked}
+use Rattle.cycle.specs.Cycle.{Tabled, CodedRoles, Stand, Asked}
 
 module _ (l ds rs cs sc : List ℕ) (mark : ℕ) (p : Ptr) (nesting : ℕ) (g : Given) where
   abbrev lent : Lent
@@ -54,5 +54,6 @@ module _ (l ds rs cs sc : List ℕ) (mark : ℕ) (p : Ptr) (nesting : ℕ) (g : 
       budget = z.steps;
     }
 
-    pub accepted_asked : Asked l ds rs cs sc g start p
-    accepted_asked = record { stand = accepted_stand; scope = a.term }
+    -- and beside it, what no member asks: the role words are codes
+    pub accepted_asked : Asked l ds rs cs sc g start p × CodedRoles ds
+    accepted_asked = (record { stand = accepted_stand; scope = a.term }, record { coded = λ d there. role_given a d there })

@@ -18,7 +18,7 @@ use Rattle.rows.specs.declared.Ptr.{Ptr}
 use Rattle.rows.specs.Words.{ptr_of, store_of}
 use Rattle.rows.proofs.Store.{held_length}
 use Rattle.tables.specs.Env.{env_of}
-use Rattle.tables.specs.Read.{decl_read}
+use Rattle.tables.specs.Read.{decl_read, value_given}
 use Rattle.tables.specs.ReadLaws.{valued_is}
 use Rattle.state.specs.declared.Given.{Given}
 use Rattle.state.specs.declared.Meter.{Meter}
@@ -33,10 +33,10 @@ module _ {l ds rs cs sc : List ℕ} {g : Given} {m : Meter} (s : Stand l ds rs c
   rows_in_use = held_length l sc m.mark g.nlib s.held
 
   -- a declaration's value
-  pub value_below : (d : ℕ) → d < length ds / 16 → IfSome (decl_read (part 16 ds d)).value (λ v. v.row < g.nlib + m.mark)
-  value_below d there = on (decl_read (part 16 ds d)).value refl
+  pub value_below : (d : ℕ) → d < length ds / 16 → IfSome (value_given (decl_read (part 16 ds d))) (λ v. v.row < g.nlib + m.mark)
+  value_below d there = on (value_given (decl_read (part 16 ds d))) refl
     where
-      on : (v : Maybe Ptr) → (decl_read (part 16 ds d)).value ≡ v → IfSome v (λ v. v.row < g.nlib + m.mark)
+      on : (v : Maybe Ptr) → value_given (decl_read (part 16 ds d)) ≡ v → IfSome v (λ v. v.row < g.nlib + m.mark)
       on None q = tt
       on (Some v) q = let k = s.sane.value d (ptr_of v) (valued_is ds rs cs g.depth d there q) in omega (arith, k.there, rows_in_use)
 

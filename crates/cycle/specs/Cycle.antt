@@ -35,6 +35,10 @@ pub record Tabled (ds rs cs : List ℕ) (g : Given) : Type 0 where
   pub records : 5 * g.depth ≤ length cs
   pub holders : HoldersOf ds g.holders
 
+-- each declaration's role word is a code: so it is on accepted input, and no member asks it
+pub record CodedRoles (ds : List ℕ) : Type 0 where
+  pub coded : (d : ℕ) → d < length ds / 16 → (decl_read (part 16 ds d)).words.role ≤ 15
+
 -- the rows in use are rows, environment and store are sane, and the budgets hold
 pub record Stand (l ds rs cs sc : List ℕ) (g : Given) (m : Meter) : Type 0 where
   pub held : Held l sc m.mark g.nlib

@@ -24,7 +24,7 @@ use Rattle.rows.specs.Writes.{Grown}
 use Rattle.rows.proofs.Store.{used_stands, up_used}
 use Rattle.tables.specs.declared.Decl.{Decl}
 use Rattle.tables.specs.Env.{env_of}
-use Rattle.tables.specs.Read.{found_value, ValueOf}
+use Rattle.tables.specs.Read.{found_value, value_given, ValueOf}
 use Rattle.state.specs.declared.Meter.{Meter}
 use Rattle.state.specs.State.{Answer}
 use Rattle.state.specs.State.{tally_of, Left}
@@ -53,7 +53,7 @@ it_unfolds {l} {sc} {m} lim o v xs e k = left_as (ap (λ (x : Option rules.Ptr).
 
 -- A DEFINITION
 module _ (d : Decl) (n : ℕ) where
-  pub no_value : d.value ≡ None → none ≡ unfolds_to d n
+  pub no_value : value_given d ≡ None → none ≡ unfolds_to d n
   no_value e = sym (ap (λ (v : Maybe Ptr). ite (eqb d.levels n) (found_value v) none) e ∙ either (eqb d.levels n))
     where
       either : (b : Bool) → ◌≡◌ {A = Option rules.Ptr} (ite b none none) none
@@ -61,10 +61,10 @@ module _ (d : Decl) (n : ℕ) where
       either false = refl
 
   pub other_levels : (d.levels ≡ n → ⊥) → none ≡ unfolds_to d n
-  other_levels h = sym (ap (λ (b : Bool). ite b (found_value d.value) none) (ne_eqb d.levels n h))
+  other_levels h = sym (ap (λ (b : Bool). ite b (found_value (value_given d)) none) (ne_eqb d.levels n h))
 
-  pub the_value : {v : Ptr} → d.value ≡ Some v → d.levels ≡ n → some (ptr_of v) ≡ unfolds_to d n
-  the_value e q = sym (ap (λ (b : Bool). ite b (found_value d.value) none) (eq-eqb d.levels n q) ∙ ap found_value e)
+  pub the_value : {v : Ptr} → value_given d ≡ Some v → d.levels ≡ n → some (ptr_of v) ≡ unfolds_to d n
+  the_value e q = sym (ap (λ (b : Bool). ite b (found_value (value_given d)) none) (eq-eqb d.levels n q) ∙ ap found_value e)
 
 -- A CONTEXT VALUE
 module _ (cs : List ℕ) (depth i : ℕ) (r : (Maybe Ptr)) (found : ValueOf cs depth i (found_value r)) where

@@ -12,7 +12,7 @@ use Rattle.rows.specs.declared.Ptr.{Ptr}
 use Rattle.rows.specs.Words.{ite, ptr_of}
 use Rattle.tables.specs.declared.Decl.{Decl}
 use Rattle.tables.specs.Env.{env_of}
-use Rattle.tables.specs.Read.{found_value}
+use Rattle.tables.specs.Read.{found_value, value_given}
 
 -- body and value stand in the store, and no sum of shifts wraps
 pub record Opens (s : Store) (body value : Ptr) (by : ℕ) : Type 0 where
@@ -44,4 +44,4 @@ pub record HasContext (cs : List ℕ) (depth n i : ℕ) : Type 0 where
 
 -- "Delta: a value and equal level counts"
 abbrev pub unfolds_to : Decl → ℕ → Option rules.Ptr
-unfolds_to d n = ite (eqb d.levels n) (found_value d.value) none
+unfolds_to d n = ite (eqb d.levels n) (found_value (value_given d)) none

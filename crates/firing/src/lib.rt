@@ -10,6 +10,7 @@ ghost use Rattle.ways.specs.Steps.{out_step, fire_in};
 ghost use Rattle.ways.specs.Spines.{args_of};
 ghost use Rattle.rows.specs.Words.{ptr_of, store_of};
 ghost use Rattle.state.specs.State.{tally_of, limits_in, Headed, Left};
+ghost use Rattle.tables.specs.Read.{value_given};
 ghost use Rattle.firing.specs.Fires.{Opens, unfold_step, context_value, HasContext, unfolds_to};
 
 use replace::{Sub, replace};
@@ -157,12 +158,12 @@ pub fn unfold_def(
     count: u32,
 ) -> Answer
     requires headed { Headed library.now scratch.old g m t count }
-    requires row_bound { IfSome d.value (λ v. v.row < g.nlib + m.mark) }
+    requires row_bound { IfSome (value_given d) (λ v. v.row < g.nlib + m.mark) }
     ensures { Left library.now scratch.old m result scratch.new (unfold_step (limits_in g scratch.old)
         (tally_of library.now scratch.old m) (unfolds_to d levels) (args_of
         (store_of library.now scratch.old m.mark) (ptr_of t))) }
 {
-    let Some(v) = d.value else {
+    let Some(v) = d.value() else {
         return Ok(Tried::Final(m));
     };
     if d.levels != levels {

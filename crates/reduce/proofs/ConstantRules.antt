@@ -14,7 +14,7 @@ use Rattle.rows.specs.declared.Ptr.{Ptr}
 use Rattle.rows.specs.Words.{ptr_of, store_of}
 use Rattle.tables.specs.Env.{env_of}
 use Rattle.tables.specs.declared.Decl as words
-use Rattle.tables.specs.Read.{decl_read}
+use Rattle.tables.specs.Read.{decl_read, value_given}
 use Rattle.state.specs.declared.Given.{Given}
 use Rattle.state.specs.declared.Meter.{Meter}
 use Rattle.state.specs.State.{Answer}
@@ -85,8 +85,8 @@ module _ (d levels : ℕ) {l ds rs cs sc : List ℕ} {g : Given} {m : Meter} {t 
 -- DELTA, with the declaration that was read; whatever it answers
 module _ (d levels : ℕ) {l ds rs cs sc : List ℕ} {g : Given} {m : Meter} {t : Ptr} {count n : ℕ} {sc₁ : List ℕ} {m₁ : Meter}
     (p : At l ds rs cs sc g m t count n d levels sc₁ m₁ by_delta) (there : d < length ds / 16) {read : words.Decl} (is : read ≡ decl_read (part 16 ds d)) where
-  pub value_stands : IfSome read.value (λ v. v.row < g.nlib + m₁.mark)
-  value_stands = subst (λ (z : words.Decl). IfSome z.value (λ v. v.row < g.nlib + m₁.mark)) (sym is) (value_below p.counted.asked.stand d there)
+  pub value_stands : IfSome (value_given read) (λ v. v.row < g.nlib + m₁.mark)
+  value_stands = subst (λ (z : words.Decl). IfSome (value_given z) (λ v. v.row < g.nlib + m₁.mark)) (sym is) (value_below p.counted.asked.stand d there)
 
   pub delta_answers : {r : Answer} {sc₂ : List ℕ} →
       Left l sc₁ m₁ r sc₂ (unfold_step (limits_in g sc₁) (tally_of l sc₁ m₁) (unfolds_to read levels) (args_of (store_of l sc₁ m₁.mark) (ptr_of t))) →

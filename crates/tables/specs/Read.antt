@@ -8,6 +8,7 @@ use Rattle.rules.specs.Declarations.{role_code, holder, value_of}
 use Rattle.rows.specs.declared.Ptr.{Ptr}
 use Rattle.rows.specs.Words.{ptr_of}
 use Rattle.tables.specs.declared.Decl.{Decl}
+use Rattle.tables.specs.declared.DeclWords.{DeclWords}
 use Rattle.tables.specs.declared.Rule.{Rule}
 use Rattle.tables.specs.declared.Holders.{Holders}
 use Rattle.tables.specs.declared.codes.Role.{Role}
@@ -19,12 +20,21 @@ abbrev pub value_in : ℕ → Ptr → Maybe Ptr
 value_in zero p = None
 value_in (suc n) p = Some p
 
+-- the words that kind, value and role are read from
+abbrev pub words_read : List ℕ → DeclWords
+words_read ws = record {
+  kind = get_or ws 0 0;
+  flag = get_or ws 4 0;
+  value = record { row = get_or ws 5 0; shift = get_or ws 6 0 };
+  role = get_or ws 7 0;
+}
+
 -- sixteen words, as `decl_at` gives them
 abbrev pub decl_read : List ℕ → Decl
 decl_read ws = record {
+  words = words_read ws;
   kind = kind_in (get_or ws 0 0);
   levels = get_or ws 1 0;
-  value = value_in (get_or ws 4 0) (record { row = get_or ws 5 0; shift = get_or ws 6 0 });
   role = role_in (get_or ws 7 0);
   parameters = get_or ws 8 0;
   second = get_or ws 9 0;
@@ -33,6 +43,10 @@ decl_read ws = record {
   first_rule = get_or ws 13 0;
   rules = get_or ws 14 0;
 }
+
+-- the value that a declaration has, by its flag
+abbrev pub value_given : Decl → Maybe Ptr
+value_given d = value_in d.words.flag d.words.value
 
 abbrev pub rule_read : List ℕ → Rule
 rule_read ws = record { constructor = get_or ws 0 0; fields = get_or ws 1 0; value = record { row = get_or ws 2 0; shift = get_or ws 3 0 } }

@@ -21,7 +21,7 @@ use Rattle.tables.specs.Records.{records_from}
 use Rattle.tables.specs.Env.{value_by, rule_of, form_by, decl_of, env_of}
 use Rattle.tables.specs.Codes.{kinds, kind_in, role_as, role_on}
 use Rattle.tables.specs.CodeLaws.{role_code_lem, role_on_is, role_known}
-use Rattle.tables.specs.Read.{value_in, decl_read, found_value}
+use Rattle.tables.specs.Read.{value_in, value_given, decl_read, found_value}
 
 -- the element that a list of records has at a position
 pub records_at : {A : Type 0} (k : ℕ) (ws : List ℕ) (read : List ℕ → A) (i n j : ℕ) (x : A) → j < n →
@@ -157,16 +157,16 @@ module _ (ds rs cs : List ℕ) (depth d : ℕ) (there : d < length ds / 16) wher
   pub no_structure : (Read.kind ≡ Some Structure → ⊥) → (ps i : ℕ) → Said.form ≡ structure ps i → ⊥
   no_structure h ps i e = no_structure_on rs (part 16 ds d) Read.kind h ps i (sym form_is ∙ e)
 
-  pub value_is : Said.value ≡ found_value Read.value
+  pub value_is : Said.value ≡ found_value (value_given Read)
   unfolding decl_of
   value_is =
       ap (λ (x : Decl). x.value) decl_is
       ∙ value_is_found (get_or (part 16 ds d) 4 0) (record { row = get_or (part 16 ds d) 5 0; shift = get_or (part 16 ds d) 6 0 })
 
-  pub valued_is : {p : Ptr} → Read.value ≡ Some p → Said.value ≡ some (ptr_of p)
+  pub valued_is : {p : Ptr} → value_given Read ≡ Some p → Said.value ≡ some (ptr_of p)
   valued_is e = value_is ∙ ap found_value e
 
-  pub no_value : Read.value ≡ None → Said.value ≡ none
+  pub no_value : value_given Read ≡ None → Said.value ≡ none
   no_value e = value_is ∙ ap found_value e
 
   pub role_is : Said.role ≡ role_on Read.role

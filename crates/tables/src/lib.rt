@@ -6,7 +6,7 @@ ghost use Rattle.rules.specs.Accepted.{part};
 ghost use Rattle.rules.specs.HeadTests.{rule_for};
 ghost use Rattle.tables.specs.Records.{records_from};
 ghost use Rattle.tables.specs.Env.{rule_of};
-ghost use Rattle.tables.specs.Read.{decl_read, rule_read, found_rule, found_value, value_in, holder_in, HoldersOf, ValueOf};
+ghost use Rattle.tables.specs.Read.{decl_read, rule_read, found_rule, found_value, value_in, value_given, holder_in, HoldersOf, ValueOf};
 
 use rows::{Ptr, record_at};
 
@@ -21,10 +21,10 @@ pub use lent::{Asked, Lent};
 // A declaration's words that the head rules read: one record for all kinds, as the words are, since each rule asks for two or three of them.
 #[derive(Clone, Copy, Debug, PartialEq, Eq)]
 pub struct Decl {
+    pub words: DeclWords,
     // none for a word that is no code
     pub kind: Option<DeclKind>,
     pub levels: u32,
-    pub value: Option<Ptr>,
     pub role: Option<Role>,
     pub parameters: u32,
     // a constructor's fields, a recursor's motives, a structure type's constructor
@@ -33,6 +33,25 @@ pub struct Decl {
     pub indices: u32,
     pub first_rule: u32,
     pub rules: u32,
+}
+
+// The words that a declaration's kind, value and role are read from, as they stand: before acceptance any may.
+#[derive(Clone, Copy, Debug, PartialEq, Eq)]
+pub struct DeclWords {
+    pub kind: u32,
+    pub flag: u32,
+    pub value: Ptr,
+    pub role: u32,
+}
+
+impl Decl {
+    // Read from the words when it is asked for: as a field of its own it would be copied along at every step.
+    pub fn value(self) -> Option<Ptr>
+        ensures { result ≡ value_given self }
+    {
+        let words = self.words;
+        value_by(words.flag, words.value.row, words.value.shift)
+    }
 }
 
 #[derive(Clone, Copy, Debug, PartialEq, Eq)]
@@ -62,9 +81,17 @@ pub fn decl_at(decls: &[u32], d: u32) -> Decl
 {
     let w = record_at::<16>(decls, 16 * d as usize);
     Decl {
+        words: DeclWords {
+            kind: w[0],
+            flag: w[4],
+            value: Ptr {
+                row: w[5],
+                shift: w[6],
+            },
+            role: w[7],
+        },
         kind: DeclKind::try_from(w[0]).ok(),
         levels: w[1],
-        value: value_by(w[4], w[5], w[6]),
         role: Role::try_from(w[7]).ok(),
         parameters: w[8],
         second: w[9],

@@ -40,13 +40,13 @@ module _ (l ds rs cs sc : List ℕ) (mark : ℕ) (p : Ptr) (nesting : ℕ) (g : 
   module _ (a : Accepted lent (env_in lent) (store_in lent)) (h : HoldersOf ds g.holders) (rows : g.nlib ≡ length l / 9) where
     pub accepted_ready : Ready start
     accepted_ready = record {
-      stand = (accepted_asked l ds rs cs sc mark p nesting g a h rows).stand;
+      stand = (accepted_asked l ds rs cs sc mark p nesting g a h rows).0.stand;
       typed = accepted_typed a;
       few = a.sizes.context;
     }
 
     pub accepted_scope : Scope start (ptr_of p)
-    accepted_scope = (accepted_asked l ds rs cs sc mark p nesting g a h rows).scope
+    accepted_scope = (accepted_asked l ds rs cs sc mark p nesting g a h rows).0.scope
 
     module _ {r : Reduced} {cs₁ sc₁ : List ℕ} (inferred : Infers nesting start (asks (env_at start) (store_at start) (ptr_of p)) r cs₁ sc₁) where
       -- the evaluator's answer, under the limits of the call

@@ -9,5 +9,5 @@ pub returns : goal.returns
 returns c =
     let kind = c.ok.ensures.value ∙ kind_ok _ _ c.try_from.ensures in
     let role = c.ok-2.ensures.value ∙ role_ok _ _ c.try_from-2.ensures in
-    (λ i. record (decl_read c.record_at-w.result.now) { kind = kind i; value = c.value_by.ensures i; role = role i })
+    (λ i. record (decl_read c.record_at-w.result.now) { kind = kind i; role = role i })
     ∙ ap decl_read c.record_at-w.ensures
