@@ -1,3 +1,4 @@
+pub mod Entries
 pub mod Keywords
 pub mod Lines
 pub mod Words
