@@ -6,7 +6,11 @@ ghost use Rattle.readout.specs.Buffers.{Wrote, WroteNumber};
 pub fn put(out: &mut [u8], at: usize, byte: u8) -> Option<usize>
     ensures { Wrote out.old at (byte ∷ []) out.new result }
 {
-    put_text(out, at, &[byte])
+    if out.len() <= at {
+        return None;
+    }
+    out[at] = byte;
+    Some(at + 1)
 }
 
 pub fn put_text(out: &mut [u8], at: usize, text: &[u8]) -> Option<usize>

@@ -73,20 +73,18 @@ pub enum Tag {
     Body,
 }
 
-// Nine kinds by three fields: plain word, term, or body under the binder.
-const FIELDS: [[Tag; 3]; 9] = [
-    // variable, sort, constant
-    [Tag::Plain, Tag::Plain, Tag::Plain],
-    [Tag::Plain, Tag::Plain, Tag::Plain],
-    [Tag::Plain, Tag::Plain, Tag::Plain],
-    // application, lambda, pi
-    [Tag::Term, Tag::Term, Tag::Plain],
-    [Tag::Term, Tag::Body, Tag::Plain],
-    [Tag::Term, Tag::Body, Tag::Plain],
-    // let, projection, number
-    [Tag::Term, Tag::Term, Tag::Body],
-    [Tag::Term, Tag::Plain, Tag::Plain],
-    [Tag::Plain, Tag::Plain, Tag::Plain],
+// Nine kinds by three fields: plain word, term, or body under the binder. A static, since a constant table of an enum is built anew
+// wherever it is read.
+static FIELDS: [[Tag; 3]; 9] = [
+    [Tag::Plain, Tag::Plain, Tag::Plain], // variable
+    [Tag::Plain, Tag::Plain, Tag::Plain], // sort
+    [Tag::Plain, Tag::Plain, Tag::Plain], // constant
+    [Tag::Term, Tag::Term, Tag::Plain], // application
+    [Tag::Term, Tag::Body, Tag::Plain], // lambda
+    [Tag::Term, Tag::Body, Tag::Plain], // pi
+    [Tag::Term, Tag::Term, Tag::Body], // let
+    [Tag::Term, Tag::Plain, Tag::Plain], // projection
+    [Tag::Plain, Tag::Plain, Tag::Plain], // number
 ];
 
 // How many of the six words between kind and bound a kind uses.
