@@ -85,7 +85,7 @@ module _ {l sc : List ℕ} {nlib m row c : ℕ} {x : Sub} {w : Shape} (seen : Se
   abbrev s : Store
   s = store_of l sc m
 
-  row_is : row_at s row ≡ row_of w
+  pub row_is : row_at s row ≡ row_of w
   row_is = row_used l sc m nlib given.ready.sound.held row given.there w seen.is
 
   pub formed : Formed w
@@ -209,7 +209,7 @@ module _ {l sc : List ℕ} {nlib m row : ℕ} {x : Sub} {τ : Tag} {p : Ptr} {sc
   pub child_ok : FieldOk now (length now) (shown τ (ptr_of p)) τ
   child_ok = ext_good_field next.went.more next.child.ok
 
-  same_height : field_height now τ (ptr_of p) ≡ field_height (store_of l sc m) τ (ptr_of p)
+  pub same_height : field_height now τ (ptr_of p) ≡ field_height (store_of l sc m) τ (ptr_of p)
   same_height =
       sym (height_shown now τ (ptr_of p)) ∙ ext_field_height next.went.more (le_refl _) next.child.ok ∙ height_shown (store_of l sc m) τ (ptr_of p)
 

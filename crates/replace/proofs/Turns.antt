@@ -66,7 +66,7 @@ module _ {l sc : List ℕ} {nlib m row c : ℕ} {x : Sub} {τ : Tag} {p : Ptr} {
     says_next : {r : Out} {sc₂ : List ℕ} → FieldDone l sc₁ nlib n₁ tag p c x r sc₂ → FieldSays l sc₁ n₁ (most_rows nlib sc) τ p c x r sc₂
     says_next done = field_says is_tag (ap (λ (k : ℕ). nlib + k / 9) next.went.same_length) done
 
-    turned : {q : Ptr} {sc₂ : List ℕ} {n₂ : ℕ} → FieldDone l sc₁ nlib n₁ tag p c x (Ok (q, n₂)) sc₂ → Turn l sc nlib m row c x τ p sc₁ n₁ q sc₂ n₂
+    pub turned : {q : Ptr} {sc₂ : List ℕ} {n₂ : ℕ} → FieldDone l sc₁ nlib n₁ tag p c x (Ok (q, n₂)) sc₂ → Turn l sc nlib m row c x τ p sc₁ n₁ q sc₂ n₂
     turned done = record { next = next; says = says_next done }
 
   module _ {q : Ptr} {sc₂ : List ℕ} {n₂ : ℕ} (turn : Turn l sc nlib m row c x τ p sc₁ n₁ q sc₂ n₂) where
@@ -75,10 +75,10 @@ module _ {l sc : List ℕ} {nlib m row c : ℕ} {x : Sub} {τ : Tag} {p : Ptr} {
         let same : most_rows nlib sc ≡ most_rows nlib sc₁ = ap (λ (k : ℕ). nlib + k / 9) (sym turn.next.went.same_length) in
         subst (λ (k : ℕ). FieldSays l sc₁ n₁ k τ p c x (Ok (q, n₂)) sc₂) same turn.says
 
-    turn_kept : FieldKept turn.next.went.ready.sound.declarations τ (store_of l sc₁ n₁) (ptr_of p) (got (store_of l sc₂ n₂) (ptr_of q))
+    pub turn_kept : FieldKept turn.next.went.ready.sound.declarations τ (store_of l sc₁ n₁) (ptr_of p) (got (store_of l sc₂ n₂) (ptr_of q))
     turn_kept = kept_field turn.next.went.ready (child_ok turn.next) here
 
-    turn_after : Went l sc nlib m x sc₂ n₂
+    pub turn_after : Went l sc nlib m x sc₂ n₂
     turn_after = went_then turn.next.went (went_field turn.next.went.ready (child_ok turn.next) here)
 
     -- rows are not fewer, a plain word is what it was, and a child stands

@@ -19,7 +19,7 @@ pub struct Sub {
 
 impl Sub {
     // How many values there are: 1 or 0.
-    fn count(self) -> u32
+    pub fn count(self) -> u32
         ensures { result ≡ count (value_of self) }
     {
         u32::from(self.value.is_some())
@@ -49,7 +49,9 @@ fn on_index(
     }
 }
 
-// A field by the table: a plain word stays, a term is replaced in, a body at the next cutoff.
+// A field by the table: a plain word stays, a term is replaced in, a body at the next cutoff. Inlined: it is called three times for
+// each row, and the calls took a sixth of a replacement.
+#[inline(always)]
 #[cycle(replace)]
 fn on_field(
     library: &[u32],

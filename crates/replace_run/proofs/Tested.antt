@@ -23,7 +23,7 @@ never e = absurd cc
 -- A GOOD POINTER
 
 module _ {l sc : List ℕ} {m nlib : ℕ} (held : Held l sc m nlib) (p : Ptr) (low : p.row < nlib + m) where
-  there : Stands l sc p.row
+  pub there : Stands l sc p.row
   there = used_stands l sc m nlib held p.row low
 
   lower : p.row < length (store_of l sc m)
