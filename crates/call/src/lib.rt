@@ -68,6 +68,9 @@ fn reduce(lent: Lent<'_>, scratch: &mut [u32], asked: Asked) -> Result<Answered,
 pub fn whnf(lent: Lent<'_>, scratch: &mut [u32], asked: Asked) -> Result<Answered, Refused>
     ensures { Answers lent.entry scratch.old asked result scratch.new lent.entry.context.now }
 {
-    accept(lent, scratch, asked)?;
-    reduce(lent, scratch, asked)
+    // by `match` and not by `?`: so an edit can turn the refusal and keep what the proof names
+    match accept(lent, scratch, asked) {
+        Ok(()) => reduce(lent, scratch, asked),
+        Err(refused) => Err(refused),
+    }
 }

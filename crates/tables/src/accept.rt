@@ -105,7 +105,10 @@ pub fn accept<'a>(lent: Lent<'a>, scratch: &'a [u32], asked: Asked) -> Result<()
     let nlib = (lent.library.len() / 9) as u32;
     let count = (lent.declarations.len() / 16) as u32;
     let rows = nlib + asked.mark;
-    check_rows(lent.library, scratch, nlib, asked.mark, count)?;
+    // by `if let` and not by `?`: so an edit can turn the refusal and keep what the proof names
+    if let Err(broken) = check_rows(lent.library, scratch, nlib, asked.mark, count) {
+        return Err(broken);
+    }
     check_decls(lent, scratch, nlib, count)?;
     check_entries(lent, scratch, rows, asked.depth)?;
     if !scoped(lent.library, scratch, rows, asked.depth, asked.term) {

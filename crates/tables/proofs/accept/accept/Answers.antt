@@ -10,22 +10,20 @@ use Rattle.tables.proofs.accept.accept.Goals as goal
 pub returns-then-not-sizes_ok : goal.returns-then-not-sizes_ok
 returns-then-not-sizes_ok c = rw c.at.ensures (refused (no_sizes (c.if-not-sizes_ok.ensures.no refl)))
 
-pub returns-in_err-check_rows : goal.returns-in_err-check_rows
-returns-in_err-check_rows c =
-    let sizes = c.if-not-sizes_ok.ensures.yes refl in
-    let p = err_from_is_err_and c.from_residual.result c.from_residual.ensures.1 in
-    rw (p.1, p.2) (a_row_broken sizes c.in_err-check_rows.ensures)
+pub returns-in-Err : goal.returns-in-Err
+returns-in-Err c = a_row_broken (c.if-not-sizes_ok.ensures.yes refl) (rw c.in-Err.is at c.check_rows.ensures)
 
 pub returns-in_err-check_decls : goal.returns-in_err-check_decls
 returns-in_err-check_decls c =
     let sizes = c.if-not-sizes_ok.ensures.yes refl in
-    let p = err_from_is_err_and c.from_residual-in_err-check_decls.result c.from_residual-in_err-check_decls.ensures.1 in
-    rw (p.1, p.2) (a_declaration_broken sizes (rows_kept sizes c.in_ok-check_rows.ensures) c.in_err-check_decls.ensures)
+    let rows = rows_kept sizes (rw c.in_default.is at c.check_rows.ensures) in
+    let p = err_from_is_err_and c.from_residual.result c.from_residual.ensures.1 in
+    rw (p.1, p.2) (a_declaration_broken sizes rows c.in_err-check_decls.ensures)
 
 pub returns-in_err-check_entries : goal.returns-in_err-check_entries
 returns-in_err-check_entries c =
     let sizes = c.if-not-sizes_ok.ensures.yes refl in
-    let rows = rows_kept sizes c.in_ok-check_rows.ensures in
+    let rows = rows_kept sizes (rw c.in_default.is at c.check_rows.ensures) in
     let decls = declarations_kept sizes c.in_ok-check_decls.ensures in
     let p = err_from_is_err_and c.from_residual-in_err-check_entries.result c.from_residual-in_err-check_entries.ensures.1 in
     rw (p.1, p.2) (a_record_broken sizes rows decls c.in_err-check_entries.ensures)
@@ -33,10 +31,12 @@ returns-in_err-check_entries c =
 pub returns-then-not-scoped : goal.returns-then-not-scoped
 returns-then-not-scoped c =
     let sizes = c.if-not-sizes_ok.ensures.yes refl in
+    let rows = rw c.in_default.is at c.check_rows.ensures in
     rw c.at-then-not-scoped.ensures
-    (the_term_broken sizes c.in_ok-check_rows.ensures c.in_ok-check_decls.ensures c.in_ok-check_entries.ensures c.if-not-scoped.ensures)
+    (the_term_broken sizes rows c.in_ok-check_decls.ensures c.in_ok-check_entries.ensures c.if-not-scoped.ensures)
 
 pub returns : goal.returns
 returns c =
     let sizes = c.if-not-sizes_ok.ensures.yes refl in
-    all_accepted sizes c.in_ok-check_rows.ensures c.in_ok-check_decls.ensures c.in_ok-check_entries.ensures c.if-not-scoped.ensures
+    let rows = rw c.in_default.is at c.check_rows.ensures in
+    all_accepted sizes rows c.in_ok-check_decls.ensures c.in_ok-check_entries.ensures c.if-not-scoped.ensures
